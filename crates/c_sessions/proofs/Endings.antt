@@ -61,7 +61,7 @@ module _ {O : Type 0} (r : Running O) where
       one_caller : (one two : Handed) → Some one ≡ Some two → one ≡ two
       one_caller one two e = cc
 
-  -- none was
+  -- where none was taken out, the pass has what it had
   pub has_same : (given : List Handed) (handover : ReturnQueue O) (before after : Pass (HandedIn O) (Knows O)) (share : Option (Arc (Running O) Global)) (gathered : List Handed) → HasTaken r given handover before share gathered → IsPassOf handover.line after → view after ≡ view before
       → HasTaken r given handover after share gathered
   has_same given handover before after share gathered has of same = record { of = of; taken = has.taken; is = same ∙ has.is; same = has.same; each = has.each; share_is = has.share_is }
@@ -92,7 +92,7 @@ module _ {O : Type 0} (r : Running O) where
         let left : total_weight (by_number h) tells.left ≡ 0 = ap (total_weight (by_number h)) (none_elsewhere tells.left few.1) in
         omega (arith, due, left, counted h, has.same (by_number h))
 
-    -- and they are accounted for
+    -- where all callers were taken out, these are accounted for by the pass
     pub are_accounted : (account : Account O) (handed : List Handed) → account.pass ≡ pass → AreSame handed gathered → AreAccounted handover given account handed
     are_accounted account handed is order =
         let of = subst (λ (p : Pass (HandedIn O) (Knows O)). IsPassOf handover.line p) (sym is) has.of in

@@ -98,7 +98,7 @@ module _ {O : Type 0} where
         refl,
       )
 
-  -- and is taken out again
+  -- the share that lies alone in a new queue is taken out, and the first pass is to hand in all callers
   pub starts : (pass : ℕ) (v : Knows O) (r : Running O) → v ≡ offering r → Pops KeepsOrIsNew pass v (λ x w. w ≡ pass_of_all v.offered)
   starts pass v r is x items views (inr k) at = absurd (none_known k.service (sym (ap (λ (u : Knows O). u.home) is) ∙ k.known pass v at))
   starts pass v r is x items views (inl (inl new)) at = absurd cc
@@ -165,7 +165,7 @@ module _ {O : Type 0} where
         refl,
       )
 
-  -- and is taken out
+  -- a caller with its share of the service is taken out of the queue
   pub takes : (pass : ℕ) (r : Running O) (v : Knows O) → v.home ≡ Some r → Pops KeepsOrIsNew pass v (λ x w. IsHandedInAt v.home x × (w ≡ pass_with_taken v x))
   takes pass r v home x items views (inl new) at = absurd (not_new r v (x ∷ items) views pass home new at)
   takes pass r v home x items views (inr k) at =

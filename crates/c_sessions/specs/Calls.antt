@@ -17,7 +17,7 @@ use Rattle.c_sessions.specs.declared.steps.Called.TheVariants.{Done, Pending, Ag
 
 -- what a call gives back stands of a caller of this service, and this was done
 pub record HandsBack {O : Type 0} (r : Running O) (handed : Handed) (Done : Type 0) : Type 0 where
-  pub ready : IsHandedOf r handed
+  pub of : IsHandedOf r handed
   pub done : Done
 
 -- the place that a session tells after a call, which told this one before
@@ -47,12 +47,13 @@ EntersNot r op tries before Worn (Idle after) = Submits r op tries before (Enter
 EntersNot r op tries before CalledStopped (Stopped after) = Submits r op tries before (EnteredHalted after)
 EntersNot r op tries before called after = ⊥
 
--- it is entered, and driven to this
+-- an operation is entered into the queue, and its entry is driven to this result
 pub record EntersAndDrives {O : Type 0} (r : Running O) (op : List ℕ) (tries : ℕ) (before : Seated) (called : Called) (after : Handed) (reply : List ℕ) : Type 0 where
   pub linked : Seated
   pub entered : Submits r op tries before (Entered linked)
   pub driven : DrivesTo r tries linked called after reply
 
+-- entering an operation into the queue and driving it has this result
 abbrev pub EntersTo : {O : Type 0} → Running O → List ℕ → ℕ → Seated → Called → Handed → List ℕ → Type 0
 EntersTo r op tries before called after reply = EntersAndDrives r op tries before called after reply ⊎ EntersNot r op tries before called after
 
@@ -70,7 +71,7 @@ abbrev pub CallsFrom : {O : Type 0} → (O → List ℕ → Bool) → Running O 
 CallsFrom reads r op tries (Idle before) called after reply = Calls reads r op tries before called after reply
 CallsFrom reads r op tries before called after reply = (called ≡ OutOfTurn) × (after ≡ before)
 
--- and finishing: out of turn where no entry is linked
+-- finishing the linked entry of a caller in any state: out of turn where no entry is linked, and then nothing is changed
 abbrev pub FinishesFrom : {O : Type 0} → Running O → ℕ → Handed → Called → Handed → List ℕ → Type 0
 FinishesFrom r tries (Linked before) called after reply = DrivesTo r tries before called after reply
 FinishesFrom r tries before called after reply = (called ≡ OutOfTurn) × (after ≡ before)

@@ -27,7 +27,7 @@ pub record IsPassOpen {O : Type 0} (r : Running O) (callers : ℕ) (due : List �
 -- the caller lies in the queue, or it is handed back and nothing is changed
 pub record HandsInTo {O : Type 0} (handover : ReturnQueue O) (before : Pass (HandedIn O) (Knows O)) (given : HandedIn O) (answer : Result (Unit {0}) (HandedIn O)) (after : Pass (HandedIn O) (Knows O)) : Type 0 where
   pub of : IsPassOf handover.line after
-  pub told : MatchResult answer (λ _. view after ≡ pass_with_given (view before) given) (λ back. (back ≡ given) × (view after ≡ view before))
+  pub by_answer : MatchResult answer (λ _. view after ≡ pass_with_given (view before) given) (λ back. (back ≡ given) × (view after ≡ view before))
 
 -- an empty list with room for this many
 pub record IsRoom (count : ℕ) (items : List Handed) (capacity : ℕ) : Type 0 where

@@ -22,7 +22,7 @@ TakesTo o r words tries before Again (Idle after) = Checkpoints o r words tries 
 TakesTo o r words tries before TakenStopped (Stopped after) = Checkpoints o r words tries before (ImageHalted after)
 TakesTo o r words tries before taken after = ⊥
 
--- and in any state: out of turn where an entry is linked or the caller is stopped, and then nothing is changed
+-- having a caller in any state take an image: out of turn where an entry is linked or the caller is stopped, and then nothing is changed
 abbrev pub TakesFrom : {O : Type 0} → Ghosts O → Running O → List ℕ → ℕ → Handed → SessionCheckpoint → Handed → Type 0
 TakesFrom o r words tries (Idle before) taken after = TakesTo o r words tries before taken after
 TakesFrom o r words tries before taken after = (taken ≡ OutOfTurn) × (after ≡ before)

@@ -27,7 +27,7 @@ SeesTo r place before (Behind found) (Idle after) = CatchesUp r place before (Ca
 SeesTo r place before SightStopped (Stopped after) = CatchesUp r place before (CallerHalted after)
 SeesTo r place before sight after = ⊥
 
--- and in any state: out of turn where an entry is linked or the caller is stopped, and then nothing is changed
+-- having a caller in any state see a place: out of turn where an entry is linked or the caller is stopped, and then nothing is changed
 abbrev pub CatchesUpFrom : {O : Type 0} → Running O → ℕ → Handed → SessionCatchUp → Handed → Type 0
 CatchesUpFrom r place (Idle before) sight after = SeesTo r place before sight after
 CatchesUpFrom r place before sight after = (sight ≡ OutOfTurn) × (after ≡ before)

@@ -32,38 +32,38 @@ pub record IsSessionOpen {O : Type 0} (s : Session O) : Type 0 where
   pub seen : HasSeenPlace (arc_value s.service) s.place handed
   pub exit : IsExitOf (arc_value s.service) (handed_number handed ∷ []) s.exit
 
--- a call leaves the session ready, and this was done
+-- a call leaves the session open, and this was done
 pub record LeavesOpen {O : Type 0} (after : Session O) (Done : Type 0) : Type 0 where
-  pub ready : IsSessionOpen after
+  pub opened : IsSessionOpen after
   pub done : Done
 
--- a session of this service, ready
+-- an open session of this service
 pub record IsOpenSessionOf {O : Type 0} (r : Running O) (s : Session O) : Type 0 where
   pub same : arc_value s.service ≡ r
-  pub ready : IsSessionOpen s
+  pub opened : IsSessionOpen s
 
 -- the number of a session's caller
 abbrev pub caller_number_in : {O : Type 0} → Session O → ℕ
 caller_number_in s = option_map_or (λ h. (seat_of h).known.local.number) s.handed 0
 
--- ready sessions of this service, for each of these callers one, in order
-pub record AreReadyOf {O : Type 0} (r : Running O) (callers : List Seated) (sessions : List (Session O)) : Type 0 where
+-- open sessions of this service, for each of these callers one, in order
+pub record AreOpenSessionsOf {O : Type 0} (r : Running O) (callers : List Seated) (sessions : List (Session O)) : Type 0 where
   pub each : All (IsOpenSessionOf r) sessions
   pub numbers : map caller_number_in sessions ≡ map (λ (x : Seated). x.known.local.number) callers
 
--- this many ready sessions of one service of an object in this many lines, which opens from this base, of caller 0 first
-pub record AreReady {O : Type 0} (object : O) (lines count : ℕ) (base : Base) (sessions : List (Session O)) : Type 0 where
+-- this many open sessions of one service of an object in this many lines, which opens from this base, of caller 0 first
+pub record AreOpenSessions {O : Type 0} (object : O) (lines count : ℕ) (base : Base) (sessions : List (Session O)) : Type 0 where
   pub all : length sessions ≡ count
   pub service : Running O
   pub is : service ≡ record { table = service.table; callers = count; lines = lines; base = base; object = object }
   pub each : All (IsOpenSessionOf service) sessions
   pub numbers : map caller_number_in sessions ≡ range_with_len 0 count
 
--- this many ready sessions of one service of an object in this many lines, which opens from the object's first image
+-- this many open sessions of one service of an object in this many lines, which opens from the object's first image
 pub record AreFirst {O : Type 0} (object : O) (lines count : ℕ) (opening : List ℕ) (sessions : List (Session O)) : Type 0 where
   pub base : Base
   pub fresh : base ≡ record { place = 0; words = fresh_region opening }
-  pub ready : AreReady object lines count base sessions
+  pub opened : AreOpenSessions object lines count base sessions
 
 -- Why a service of this many callers of an object of this many lines is not opened: the first number that is wrong, or out of memory, which may come
 -- before the numbers are looked at; or the numbers are right, and the sessions' new queue did not take its first entry or give it back.
@@ -75,7 +75,7 @@ IsOpenFault callers lines InTheWay = AreFewCallers callers × AreFewLines lines
 -- The session after it has the same share, and this stands of its caller. Its place is this one, and does not fall.
 pub record SessionStands {O : Type 0} (before after : Session O) (place : ℕ) (come_to : Handed → Handed → Type 0) : Type 0 where
   pub same : arc_value after.service ≡ arc_value before.service
-  pub told : IfSome before.handed (λ b. IfSome after.handed (come_to b))
+  pub came : IfSome before.handed (λ b. IfSome after.handed (come_to b))
   pub is : after.place ≡ place
   pub rises : before.place ≤ after.place
 
@@ -87,7 +87,7 @@ CallsIn reads op tries before called after reply = SessionStands before after (p
 abbrev pub FinishesIn : {O : Type 0} → ℕ → Session O → Called → Session O → List ℕ → Type 0
 FinishesIn tries before called after reply = SessionStands before after (place_after called before.place) (λ b a. FinishesFrom (arc_value before.service) tries b called a reply)
 
--- and so did catching up with a place
+-- catching up with a place had this result
 abbrev pub SeesIn : {O : Type 0} → ℕ → Session O → SessionCatchUp → Session O → Type 0
 SeesIn place before sight after = SessionStands before after (place_seen sight place before.place) (λ b a. CatchesUpFrom (arc_value before.service) place b sight a)
 

@@ -39,7 +39,7 @@ pub(crate) fn catch_up_idle<O: Object>(
     handed: Handed,
     place: u64,
 ) -> (Handed, SessionCatchUp)
-    requires ready { IsHandedOf service.now handed }
+    requires handed { IsHandedOf service.now handed }
     ensures { HandsBack service.now result.0 (CatchesUpFrom service.now place handed result.1 result.0) }
 {
     match handed {

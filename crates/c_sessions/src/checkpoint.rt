@@ -41,7 +41,7 @@ pub(crate) fn take_image<O: Object>(
     into: &mut [u64],
     tries: Tries,
 ) -> (Handed, SessionCheckpoint)
-    requires ready { IsHandedOf service.now handed }
+    requires handed { IsHandedOf service.now handed }
     requires words { length into.old ≡ length service.now.base.words }
     ensures takes { HandsBack service.now result.0 (TakesFrom O.Object service.now into.new tries.count handed result.1 result.0) }
     ensures length { length into.new ≡ length into.old }

@@ -7,7 +7,7 @@
 //! one closes the service.
 //!
 //! - `open`, `open_from`: a session for each caller of a new service, over the object's first base or over another.
-//! - `Session::call`, `Session::finish`: what a call answers is the service's answer, and the session is ready again.
+//! - `Session::call`, `Session::finish`: what a call answers is the service's answer, and the session is open again.
 //! - `Session::place`, `Session::catch_up`: the place tells another session what this one has seen, and once that one caught up with it, its later
 //!   answers stand at or above it (`SessionStands`, `Sees`).
 //! - `Session::checkpoint`: the session takes an image of the object while the others go on, as the service's caller does.

@@ -36,7 +36,7 @@ impl<O: Object> Session<O> {
     ) -> Session<O>
         requires handed { IsHandedOf (arc_value service) handed }
         requires exit { IsExitOf (arc_value service) (handed_number handed ∷ []) exit }
-        ensures ready { IsSessionOpen result }
+        ensures opened { IsSessionOpen result }
         ensures of { (arc_value result.service ≡ arc_value service) × (result.handed ≡ Some handed) }
     {
         Session {
@@ -57,7 +57,7 @@ impl<O: Object> Session<O> {
     /// }
     /// ```
     pub fn call(&mut self, op: &OpWords, reply: &mut OpWords, tries: Tries) -> Called
-        requires ready { IsSessionOpen self.old }
+        requires opened { IsSessionOpen self.old }
         ensures { LeavesOpen self.new (CallsIn O.only_reads op.now tries.count self.old result self.new reply.new) }
     {
         let Some(handed) = self.handed.take() else {
@@ -71,7 +71,7 @@ impl<O: Object> Session<O> {
 
     /// Drives the linked entry to its answer, in at most the given number of attempts.
     pub fn finish(&mut self, reply: &mut OpWords, tries: Tries) -> Called
-        requires ready { IsSessionOpen self.old }
+        requires opened { IsSessionOpen self.old }
         ensures { LeavesOpen self.new (FinishesIn tries.count self.old result self.new reply.new) }
     {
         let Some(handed) = self.handed.take() else {
@@ -94,7 +94,7 @@ impl<O: Object> Session<O> {
     /// Has the session see a place that another one of the service told, in whatever way. From `Caught` on what it is answered stands at or above
     /// the place. `Behind` comes only where the current place was found below it, which is where nobody was answered at it.
     pub fn catch_up(&mut self, place: u64) -> SessionCatchUp
-        requires ready { IsSessionOpen self.old }
+        requires opened { IsSessionOpen self.old }
         ensures { LeavesOpen self.new (SeesIn place self.old result self.new) }
     {
         let Some(handed) = self.handed.take() else {
@@ -109,7 +109,7 @@ impl<O: Object> Session<O> {
     /// Takes an image of the object, results included, while others go on, in at most the given number of tries. After `At` the words are a base from
     /// which a service may start, at this place, which is the session's then. Else nothing is told of them.
     pub fn checkpoint(&mut self, into: &mut [u64], tries: Tries) -> SessionCheckpoint
-        requires ready { IsSessionOpen self.old }
+        requires opened { IsSessionOpen self.old }
         requires words { length into.old ≡ length (arc_value self.old.service).base.words }
         ensures takes { LeavesOpen self.new (TakesIn O.Object into.new tries.count self.old result self.new) }
         ensures length { length into.new ≡ length into.old }

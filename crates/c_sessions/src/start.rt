@@ -5,7 +5,7 @@ ghost use Rattle.std.specs.List.{range_with_len};
 ghost use Rattle.cx_core.specs.Base.{LawfulBase};
 ghost use Rattle.cx_service.specs.Callers.{IsCallerOf};
 ghost use Rattle.cx_service.specs.Starts.{AreFewCallers, AreFewLines};
-ghost use Rattle.c_sessions.specs.Sessions.{AreFirst, AreReady, AreReadyOf, IsOpenFault};
+ghost use Rattle.c_sessions.specs.Sessions.{AreFirst, AreOpenSessions, AreOpenSessionsOf, IsOpenFault};
 
 use crate::exit::ClosingState;
 use crate::handover::{NoQueue, open_for};
@@ -54,7 +54,7 @@ pub fn open_from<O: Object>(
     base: &Base,
 ) -> Result<Vec<Session<O>>, OpenFault>
     requires { AreFewCallers callers → AreFewLines (O.line_count object) → LawfulBase (O.line_count object) (O.lawful object) base.now }
-    ensures { MatchResult result (λ sessions. AreReady object (O.line_count object) callers base.now sessions.items) (IsOpenFault callers (O.line_count object)) }
+    ensures { MatchResult result (λ sessions. AreOpenSessions object (O.line_count object) callers base.now sessions.items) (IsOpenFault callers (O.line_count object)) }
 {
     let Ok(limits) = Vec::from_elem(alloc, u64::MAX, callers as usize) else {
         return Err(OpenFault::Start(StartFault::Memory));
@@ -79,7 +79,7 @@ fn shared<O: Object>(
     requires all { (length callers.items ≡ service.callers) × (service.callers ≤ 8) }
     requires each { All (IsCallerOf service) callers.items }
     requires numbers { map (λ c. c.known.local.number) callers.items ≡ range_with_len 0 service.callers }
-    ensures { IfOk result (λ sessions. AreReadyOf service callers.items sessions.items) }
+    ensures { IfOk result (λ sessions. AreOpenSessionsOf service callers.items sessions.items) }
 {
     let count = callers.len();
     let Ok(service) = Arc::new(alloc, service) else {

@@ -48,7 +48,7 @@ pub(crate) fn call_idle<O: Object>(
     reply: &mut OpWords,
     tries: Tries,
 ) -> (Handed, Called)
-    requires ready { IsHandedOf service.now handed }
+    requires handed { IsHandedOf service.now handed }
     ensures { HandsBack service.now result.0 (CallsFrom O.only_reads service.now op.now tries.count handed result.1 result.0 reply.new) }
 {
     match handed {
@@ -64,7 +64,7 @@ pub(crate) fn finish_linked<O: Object>(
     reply: &mut OpWords,
     tries: Tries,
 ) -> (Handed, Called)
-    requires ready { IsHandedOf service.now handed }
+    requires handed { IsHandedOf service.now handed }
     ensures { HandsBack service.now result.0 (FinishesFrom service.now tries.count handed result.1 result.0 reply.new) }
 {
     match handed {

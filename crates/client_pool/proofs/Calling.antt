@@ -23,29 +23,35 @@ use Rattle.client_pool.specs.declared.call.Call.{Call}
 use Rattle.client_pool.specs.declared.call.Call.TheVariants.{Entry, Look}
 use Rattle.client_pool.specs.declared.client.Client.{Client}
 
+-- the floor behind calls is that of the last one
 pub floor_more : (floor : ℕ) (calls : List Call) (call : Call) → floor_after floor (calls ++ call ∷ []) ≡ next_place_of call
 floor_more floor [] call = refl
 floor_more floor (c ∷ calls) call = floor_more (next_place_of c) calls call
 
+-- one call more is in turn where its answer holds at or above the floor behind the others
 pub in_turn_more : (floor : ℕ) (calls : List Call) (call : Call) → AreInTurn floor calls → floor_after floor calls ≤ answer_place_of call → AreInTurn floor (calls ++ call ∷ [])
 in_turn_more floor [] call turn from = (from, tt)
 in_turn_more floor (c ∷ calls) call turn from = (turn.0, in_turn_more (next_place_of c) calls call turn.1 from)
 
-pub entries_more : (calls : List Call) (told : AnsweredCall) → entries_called (calls ++ Entry told ∷ []) ≡ entries_called calls ++ told ∷ []
-entries_more [] told = refl
-entries_more (Entry t ∷ calls) told = ap (λ (l : List AnsweredCall). t ∷ l) (entries_more calls told)
-entries_more (Look x ∷ calls) told = entries_more calls told
+-- one entry more among calls is the last of their entries
+pub entries_more : (calls : List Call) (call : AnsweredCall) → entries_called (calls ++ Entry call ∷ []) ≡ entries_called calls ++ call ∷ []
+entries_more [] call = refl
+entries_more (Entry t ∷ calls) call = ap (λ (l : List AnsweredCall). t ∷ l) (entries_more calls call)
+entries_more (Look x ∷ calls) call = entries_more calls call
 
+-- a read more among calls leaves their entries as they are
 pub entries_same : (calls : List Call) (read : SeenRead) → entries_called (calls ++ Look read ∷ []) ≡ entries_called calls
 entries_same [] read = refl
 entries_same (Entry t ∷ calls) read = ap (λ (l : List AnsweredCall). t ∷ l) (entries_same calls read)
 entries_same (Look x ∷ calls) read = entries_same calls read
 
-pub reads_same : (calls : List Call) (told : AnsweredCall) → reads_called (calls ++ Entry told ∷ []) ≡ reads_called calls
-reads_same [] told = refl
-reads_same (Entry t ∷ calls) told = reads_same calls told
-reads_same (Look x ∷ calls) told = ap (λ (l : List SeenRead). x ∷ l) (reads_same calls told)
+-- an entry more among calls leaves their reads as they are
+pub reads_same : (calls : List Call) (call : AnsweredCall) → reads_called (calls ++ Entry call ∷ []) ≡ reads_called calls
+reads_same [] call = refl
+reads_same (Entry t ∷ calls) call = reads_same calls call
+reads_same (Look x ∷ calls) call = ap (λ (l : List SeenRead). x ∷ l) (reads_same calls call)
 
+-- one read more among calls is the last of their reads
 pub reads_more : (calls : List Call) (read : SeenRead) → reads_called (calls ++ Look read ∷ []) ≡ reads_called calls ++ read ∷ []
 reads_more [] read = refl
 reads_more (Entry t ∷ calls) read = reads_more calls read
@@ -56,11 +62,11 @@ module _ {O : Type 0} (r : Running O) (table : TableId) (before after : Client) 
   abbrev pub updated : (op : List ℕ) (floor caller : ℕ) (asked : Seated) (answer : Answer) → before.floor ≤ floor → before.caught_up ≤ floor → TellsEntry r table op floor asked before.lent after.lent caller answer → IsSameClient before after
       → after.caught_up ≡ before.caught_up → after.answers.items ≡ before.answers.items ++ Updated caller answer ∷ [] → after.floor ≡ answer.ticket + 1 → HasUpdated r table op before after answer
   updated op least caller asked answer above above_seen tells same seen answers floor =
-      let t = tells.told in
+      let t = tells.call in
       let mine : answered_by (Entry t) ≡ Updated caller answer = ap (λ n. Updated n t.answer) tells.is.0 ∙ ap (Updated caller) tells.is.1 in
       let at : t.answer.ticket ≡ answer.ticket = ap (λ (a : Answer). a.ticket) tells.is.1 in
       record {
-        told = t;
+        call = t;
         is = (tells.is.1, tells.ticket, tells.op_is);
         made = record {
           client = tells.lent;
@@ -72,13 +78,13 @@ module _ {O : Type 0} (r : Running O) (table : TableId) (before after : Client) 
             answers = answers ∙ ap (λ (l : List Answered). l ++ Updated caller answer ∷ []) has.answers ∙ ap (λ (a : Answered). map answered_by calls ++ a ∷ []) (sym mine) ∙ sym (map-append answered_by calls (Entry t ∷ []));
             floor = floor ∙ ap (λ n. n + 1) (sym at) ∙ sym (floor_more r.base.place calls (Entry t));
             in_turn = in_turn_more r.base.place calls (Entry t) has.in_turn (omega (arith, has.floor, above, tells.from, at));
-            told = tells.tells ∙ ap (λ (l : List AnsweredCall). l ++ t ∷ []) has.told ∙ sym (entries_more calls t);
+            told_calls = tells.tells ∙ ap (λ (l : List AnsweredCall). l ++ t ∷ []) has.told_calls ∙ sym (entries_more calls t);
             shown = λ h. (let same_ : total_weight h (reads_called (calls ++ Entry t ∷ [])) ≡ total_weight h (reads_called calls) = ap (total_weight h) (reads_same calls t) in omega (arith, same_, has.shown h, tells.shows h));
           };
         };
       }
 
-  -- it is of the caller that was asked
+  -- a read beside the queue is of the caller that was asked, which was given back
   pub read_is : (op : List ℕ) (floor : ℕ) (first caller : Seated) (seen : Seen) → ComesFrom r first caller → (s : ShowsRead r table op floor caller before.lent after.lent seen) → ReturnsFirst before.lent after.lent first s.now
       → IsReadShown r op before.lent after.lent s.read
   read_is op floor first caller seen came s back = record {
@@ -103,7 +109,7 @@ module _ {O : Type 0} (r : Running O) (table : TableId) (before after : Client) 
       answers = answers ∙ has.answers;
       floor = floor ∙ has.floor;
       in_turn = has.in_turn;
-      told = tells.told ∙ has.told;
+      told_calls = tells.told_calls ∙ has.told_calls;
       shown = λ h. (let same_ : total_weight h (view after.lent.pass).shown ≡ total_weight h (view before.lent.pass).shown = ap (total_weight h) tells.shown in omega (arith, same_, has.shown h));
     };
   }
@@ -136,7 +142,7 @@ module _ {O : Type 0} (r : Running O) (table : TableId) (before after : Client) 
       answers = answers ∙ has.answers;
       floor = floor ∙ has.floor;
       in_turn = has.in_turn;
-      told = given.tells ∙ has.told;
+      told_calls = given.tells ∙ has.told_calls;
       shown = λ h. omega (arith, has.shown h, given.shows h);
     };
   })
@@ -161,7 +167,7 @@ module _ {O : Type 0} (r : Running O) (table : TableId) (before after : Client) 
             answers = answers ∙ ap (λ (l : List Answered). l ++ Read seen ∷ []) has.answers ∙ ap (λ (a : Answered). map answered_by calls ++ a ∷ []) (sym mine) ∙ sym (map-append answered_by calls (Look x ∷ []));
             floor = floor ∙ sym at ∙ sym (floor_more r.base.place calls (Look x));
             in_turn = in_turn_more r.base.place calls (Look x) has.in_turn (omega (arith, has.floor, above, shows.from, at));
-            told = shows.tells ∙ has.told ∙ sym (entries_same calls x);
+            told_calls = shows.tells ∙ has.told_calls ∙ sym (entries_same calls x);
             shown = λ h. (let same_ : total_weight h (reads_called (calls ++ Look x ∷ [])) ≡ total_weight h (reads_called calls ++ x ∷ []) = ap (total_weight h) (reads_more calls x) in omega (arith, same_, total_both h (reads_called calls) (x ∷ []), has.shown h, shows.shows h));
           };
         };

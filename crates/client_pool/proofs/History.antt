@@ -29,7 +29,7 @@ use Rattle.cx_service.specs.Closes.{seat_of, seats_of}
 use Rattle.cx_service.specs.declared.close.Handed.{Handed}
 use Rattle.cx_table.specs.Remains.{ClosingWitness, locals_of}
 use Rattle.cx_table.specs.declared.remains.Remains.{Remains}
-use Rattle.seat_pool.specs.Gathering.{AreCallsTold, handed_calls, handed_reads, lent_shown, lent_told, one_at}
+use Rattle.seat_pool.specs.Gathering.{AreCallsTold, handed_calls, handed_reads, lent_calls, lent_reads, one_at}
 use Rattle.seat_pool.specs.Pooling.{calls_from, calls_of, total_weight}
 use Rattle.seat_pool.specs.declared.hand.AnsweredCall.{AnsweredCall}
 use Rattle.client_pool.specs.Answers.{AreAnswered, IsCallOf, IsCallersCall, IsCallersEntry, IsCallersRead, IsEntryOf, IsReadOf, StandsIn}
@@ -39,7 +39,7 @@ use Rattle.client_pool.specs.declared.call.Call.{Call}
 use Rattle.client_pool.specs.declared.call.Call.TheVariants.{Entry, Look}
 use Rattle.client_pool.specs.declared.client.Client.{Client}
 use Rattle.client_pool.proofs.Tickets.{once}
-use Rattle.client_pool.proofs.Weights.{found, read_is, read_self, same_read, same_told, told_is, told_self}
+use Rattle.client_pool.proofs.Weights.{call_is, call_self, found, read_is, read_self, same_call, same_read}
 
 -- a call of a caller has the entry and the answer at its place in the caller's lists
 call_item : (n : ℕ) (own : List Linked) (answers : List Answer) (i : ℕ) (t : AnsweredCall) → slice_get (calls_from n own answers) i ≡ Some t
@@ -132,11 +132,11 @@ module _ {O : Type 0} (r : Running O) (instance : Instance) (handed : List Hande
   abbrev Stands : Call → Type 0
   Stands call = IsCallOf instance history call × IsCallersCall remains.trail.locals call
 
-  entry_is : (t : AnsweredCall) → same_told t t ≤ total_weight (handed_calls (same_told t)) handed → Stands (Entry t)
+  entry_is : (t : AnsweredCall) → same_call t t ≤ total_weight (handed_calls (same_call t)) handed → Stands (Entry t)
   entry_is t most =
-      let g = found (handed_calls (same_told t)) handed (let self = told_self t in omega (arith, self, most)) in
-      let u = found (same_told t) (calls_of (seat_of g.1)) g.3 in
-      subst (λ (x : AnsweredCall). Stands (Entry x)) (sym (told_is t u.1 u.3)) (entry_here g.0 g.1 u.0 u.1 g.2 u.2)
+      let g = found (handed_calls (same_call t)) handed (let self = call_self t in omega (arith, self, most)) in
+      let u = found (same_call t) (calls_of (seat_of g.1)) g.3 in
+      subst (λ (x : AnsweredCall). Stands (Entry x)) (sym (call_is t u.1 u.3)) (entry_here g.0 g.1 u.0 u.1 g.2 u.2)
 
   read_is_one : (x : SeenRead) → same_read x x ≤ total_weight (handed_reads (same_read x)) handed → Stands (Look x)
   read_is_one x most =
@@ -147,7 +147,7 @@ module _ {O : Type 0} (r : Running O) (instance : Instance) (handed : List Hande
   one_client : (cs : List Call) → ((h : AnsweredCall → ℕ) → total_weight h (entries_called cs) ≤ total_weight (handed_calls h) handed) → ((h : SeenRead → ℕ) → total_weight h (reads_called cs) ≤ total_weight (handed_reads h) handed) → All Stands cs
   one_client [] entries reads = All-nil Stands
   one_client (Entry t ∷ cs) entries reads =
-      All-cons Stands (Entry t) cs (entry_is t (let most = entries (same_told t) in omega (arith, most))) (one_client cs (λ h. (let most = entries h in omega (arith, most))) reads)
+      All-cons Stands (Entry t) cs (entry_is t (let most = entries (same_call t) in omega (arith, most))) (one_client cs (λ h. (let most = entries h in omega (arith, most))) reads)
   one_client (Look x ∷ cs) entries reads =
       All-cons Stands (Look x) cs (read_is_one x (let most = reads (same_read x) in omega (arith, most))) (one_client cs entries (λ h. (let most = reads h in omega (arith, most))))
 
@@ -169,10 +169,10 @@ module _ {O : Type 0} (r : Running O) (instance : Instance) (handed : List Hande
   whole_of caller l at = some_of (slice_get leaves.whole caller) l (sym (slice_get-map shown leaves.whole caller) ∙ ap (λ (ls : List Local). slice_get ls caller) (leaves.shows ∙ sym leaves.locals) ∙ at)
 
   pub stands_in : (call : Call) → IsCallersCall remains.trail.locals call → StandsIn remains.trail.locals operations call
-  stands_in (Entry told) is =
-      let w = whole_of told.caller is.local is.of_caller in
-      let own : slice_get w.0.own is.index ≡ Some told.entry = ap (λ (x : Local). slice_get x.own is.index) w.2 ∙ is.own in
-      (is, order.one_order.is.each (Update told.caller is.index) (w.0, w.1, slice_get_within w.0.own is.index told.entry own))
+  stands_in (Entry call) is =
+      let w = whole_of call.caller is.local is.of_caller in
+      let own : slice_get w.0.own is.index ≡ Some call.entry = ap (λ (x : Local). slice_get x.own is.index) w.2 ∙ is.own in
+      (is, order.one_order.is.each (Update call.caller is.index) (w.0, w.1, slice_get_within w.0.own is.index call.entry own))
   stands_in (Look read) is =
       let w = whole_of is.caller is.local is.of_caller in
       let seen : slice_get w.0.seen_reads is.index ≡ Some read = ap (λ (x : Local). slice_get x.seen_reads is.index) w.2 ∙ is.seen in
@@ -183,13 +183,13 @@ module _ {O : Type 0} (r : Running O) (instance : Instance) (handed : List Hande
 
 -- what clients were told are the entries of their calls, and what they were shown has their reads
 module _ {O : Type 0} (r : Running O) where
-  pub weighs : (h : AnsweredCall → ℕ) (clients : List Client) (calls : List (List Call)) → AllZip (HasCalls r) clients calls → total_weight (λ (cs : List Call). total_weight h (entries_called cs)) calls ≡ total_weight (lent_told h) (lents_of clients)
+  pub weighs : (h : AnsweredCall → ℕ) (clients : List Client) (calls : List (List Call)) → AllZip (HasCalls r) clients calls → total_weight (λ (cs : List Call). total_weight h (entries_called cs)) calls ≡ total_weight (lent_calls h) (lents_of clients)
   weighs h [] [] are = refl
   weighs h [] (cs ∷ calls) are = absurd are
   weighs h (c ∷ clients) [] are = absurd are
-  weighs h (c ∷ clients) (cs ∷ calls) are = (let here = ap (total_weight h) are.0.told in let rest = weighs h clients calls are.1 in omega (arith, here, rest))
+  weighs h (c ∷ clients) (cs ∷ calls) are = (let here = ap (total_weight h) are.0.told_calls in let rest = weighs h clients calls are.1 in omega (arith, here, rest))
 
-  reads_weigh_ : (h : SeenRead → ℕ) (clients : List Client) (calls : List (List Call)) → AllZip (HasCalls r) clients calls → total_weight (λ (cs : List Call). total_weight h (reads_called cs)) calls ≤ total_weight (lent_shown h) (lents_of clients)
+  reads_weigh_ : (h : SeenRead → ℕ) (clients : List Client) (calls : List (List Call)) → AllZip (HasCalls r) clients calls → total_weight (λ (cs : List Call). total_weight h (reads_called cs)) calls ≤ total_weight (lent_reads h) (lents_of clients)
   reads_weigh_ h [] [] are = omega arith
   reads_weigh_ h [] (cs ∷ calls) are = absurd are
   reads_weigh_ h (c ∷ clients) [] are = absurd are
@@ -204,9 +204,9 @@ module _ {O : Type 0} (r : Running O) where
   -- all that closing tells of the calls of clients
   pub are_answered : (instance : Instance) (handed : List Handed) (remains : Remains) (clients : List Client) → instance.base.place ≡ r.base.place → ClosingWitness r instance (seats_of handed) remains → AreCallsTold r (lents_of clients) handed
       → (calls : List (List Call)) → AllZip (HasCalls r) clients calls → AreAnswered instance remains.trail.history remains.trail.locals calls
-  are_answered instance handed remains clients place leaves told calls are =
-      let entries = λ (h : AnsweredCall → ℕ). (let all = told.calls h in let here = weighs h clients calls are in let most : total_weight (λ (cs : List Call). total_weight h (entries_called cs)) calls ≤ total_weight (handed_calls h) handed = omega (arith, all, here) in most) in
-      let reads = λ (h : SeenRead → ℕ). (let all = told.reads h in let here = reads_weigh_ h clients calls are in let most : total_weight (λ (cs : List Call). total_weight h (reads_called cs)) calls ≤ total_weight (handed_reads h) handed = omega (arith, all, here) in most) in
+  are_answered instance handed remains clients place leaves are_told calls are =
+      let entries = λ (h : AnsweredCall → ℕ). (let all = are_told.calls h in let here = weighs h clients calls are in let most : total_weight (λ (cs : List Call). total_weight h (entries_called cs)) calls ≤ total_weight (handed_calls h) handed = omega (arith, all, here) in most) in
+      let reads = λ (h : SeenRead → ℕ). (let all = are_told.reads h in let here = reads_weigh_ h clients calls are in let most : total_weight (λ (cs : List Call). total_weight h (reads_called cs)) calls ≤ total_weight (handed_reads h) handed = omega (arith, all, here) in most) in
       let stands : Call → Type 0 = λ call. IsCallOf instance leaves.state.history call × IsCallersCall remains.trail.locals call in
       let all = all_clients r instance handed remains leaves calls entries reads in
       record {

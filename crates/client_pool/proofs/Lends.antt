@@ -22,7 +22,7 @@ use Rattle.cx_service.specs.declared.update.Updated.{Updated}
 use Rattle.cx_service.specs.declared.update.Updated.TheVariants.{Done as UpdatedDone, Full as UpdatedFull, Worn as UpdatedWorn, Halted as UpdatedHalted}
 use Rattle.cx_attempts.specs.declared.lookup.Seen.{Seen}
 use Rattle.seat_pool.specs.Gathering.{Gathers, StaysIdle}
-use Rattle.seat_pool.specs.Pooling.{HasLimit, IsFirstOf, IsHomeOf, given_from, limits_at, told_with, total_weight, with_given}
+use Rattle.seat_pool.specs.Pooling.{HasLimit, IsFirstOf, IsHomeOf, call_with, given_from, limits_at, total_weight, with_given}
 use Rattle.seat_pool.specs.declared.hand.LenderPass.{LenderPass}
 use Rattle.seat_pool.specs.declared.hand.Returned.{Returned}
 use Rattle.seat_pool.specs.declared.hand.AnsweredCall.{AnsweredCall}
@@ -33,20 +33,20 @@ use Rattle.client_pool.specs.Clients.{HaltsClientUpdate, HaltsClientRead, IsClie
 use Rattle.client_pool.specs.Lending.{ComesFrom, EntersRead, GivesBack, HaltsLater, HaltsBesideQueue, HoldsIdle, HoldsKept, IsBegun, IsFirstCaller, IsGivenBack, IsLentTo, IsOut, IsPart, IsReadRefused, KeepsFull, KeepsStopped, KeepsWorn, LooksOn, MayGive, MaySettle, Returns, ReturnsFirst, Settles, ShowsRead, TellsSame, limits_of}
 use Rattle.client_pool.specs.declared.lend.EntryOutcome.TheVariants.{Done, Full, Worn, Halted}
 
--- The call is answered as an entry of this caller, which was so when it entered the queue: it was told with its answer, whose ticket is not below the floor. The
--- caller was given back.
+-- The call is answered as an entry of the caller that was asked, as it was when it entered the queue. The call with its answer was told to the client, its
+-- ticket is not below the floor, and the caller was given back.
 pub record TellsEntry {O : Type 0} (r : Running O) (table : TableId) (op : List ℕ) (floor : ℕ) (asked : Seated) (before after : Lent) (caller : ℕ) (answer : Answer) : Type 0 where
   pub lent : IsLentTo r table after
   pub back : after.kept ≡ None
   pub limits : limits_of after ≡ limits_of before
-  pub told : AnsweredCall
-  pub entry : told ≡ told_with asked.known.local.number (next_entry r asked.known.local op answer.ticket) answer
-  pub is : (told.caller ≡ caller) × (told.answer ≡ answer)
-  pub op_is : told.entry.entry.op ≡ op
-  pub ticket : told.entry.ticket ≡ answer.ticket
+  pub call : AnsweredCall
+  pub entry : call ≡ call_with asked.known.local.number (next_entry r asked.known.local op answer.ticket) answer
+  pub is : (call.caller ≡ caller) × (call.answer ≡ answer)
+  pub op_is : call.entry.entry.op ≡ op
+  pub ticket : call.entry.ticket ≡ answer.ticket
   pub from : floor ≤ answer.ticket
   pub small : answer.ticket < 2 ^ 40
-  pub tells : (view after.pass).told ≡ (view before.pass).told ++ told ∷ []
+  pub tells : (view after.pass).told_calls ≡ (view before.pass).told_calls ++ call ∷ []
   pub shows : (h : SeenRead → ℕ) → total_weight h (view before.pass).shown ≤ total_weight h (view after.pass).shown
 
 module _ {O : Type 0} (r : Running O) where
@@ -171,7 +171,7 @@ module _ {O : Type 0} (r : Running O) where
         images = keeps.images;
       }
 
-  -- its new entry is below its front
+  -- the ticket at which an update answered its caller is below the caller's front
   own_below : (op : List ℕ) (x y : Seated) (answer : Answer) → UpdateDone r op x y answer → answer.ticket < y.known.local.front
   own_below op x y answer done =
       let e = next_entry r x.known.local op answer.ticket in
@@ -181,18 +181,18 @@ module _ {O : Type 0} (r : Running O) where
   pub holds_on : (v : LenderPass) (x y : Seated) → HoldsIdle r v x → StaysIdle r x y → HoldsIdle r v y
   holds_on v x y holds idle = record { taken = holds.taken; held = holds.held; limit = holds.limit; idle = stays_on holds.taken x y holds.idle idle }
 
-  -- it has its limit
+  -- a caller that a pass holds has the limit that the pass knows of it, also later
   pub limit_of : (v : LenderPass) (x y : Seated) → HoldsIdle r v x → y.known.local.number ≡ x.known.local.number → y.known.local.limit ≡ x.known.local.limit → HasLimit (limits_at v.home) y
   limit_of v x y holds number limit =
       ap (slice_get (limits_at v.home)) (number ∙ holds.idle.number) ∙ holds.limit ∙ ap Some (sym (limit ∙ holds.idle.limit))
 
-  -- so has one that is stopped
+  -- a caller that an update or a read stopped has the number and the limit that it had
   halted_same : (op : List ℕ) (x : Seated) (s : StoppedSeat) → UpdateHalted r op x s ⊎ ReadHalted r op x s → (s.seat.known.local.number ≡ x.known.local.number) × (s.seat.known.local.limit ≡ x.known.local.limit)
   halted_same op x s (inl update) = (update.number, ⊎_elim (λ h. h.keeps.limit) (λ h. h.links.limit) update.lists)
   halted_same op x s (inr read) = (read.keeps.number, read.keeps.limit)
 
   module _ (table : TableId) where
-    -- a pass that knows the same service, with the same part
+    -- what was lent with another pass of the queue is a part too, where that knows the same service, with the same part
     pub part_like : (before after : Lent) (w : LenderPass) → IsPart r table before → (after.pass.table_id ≡ table) × (after.pass.me.1 ≡ []) → view after.pass ≡ w
         → w.home ≡ (view before.pass).home → w.parts ≡ (view before.pass).parts → w.placed ≡ (view before.pass).placed → IsPart r table after
     part_like before after w part pass is home parts placed = record {
@@ -213,7 +213,7 @@ module _ {O : Type 0} (r : Running O) where
       returned = ap (λ (u : LenderPass). u.returned) is ∙ ap (λ l. (given_from (view mid.pass) l y).returned) out.holds.held;
     }
 
-    -- and it is the one that the call began with
+    -- where the caller that was out is given back, it is the one that the call began with
     pub returns_first : (before mid after : Lent) (first y : Seated) → TellsSame before mid → IsFirstCaller before.kept (view mid.pass) first → Returns mid after y → ReturnsFirst before after first y
     returns_first before mid after first y same is back = record {
       kept = is.kept;
@@ -222,7 +222,7 @@ module _ {O : Type 0} (r : Running O) where
       first_is = λ none. same_Some first back.taken (ap (λ (l : List Seated). slice_get l 0) (sym (is.taken none) ∙ back.held));
     }
 
-    -- so it is where no other call was made by it
+    -- a caller that was out since its call began, and is given back, is the one that the call began with
     pub returned : (before mid after : Lent) (first y : Seated) → TellsSame before mid → IsFirstCaller before.kept (view mid.pass) first → IsOut r table mid first → view after.pass ≡ with_given (view mid.pass) y → ReturnsFirst before after first y
     returned before mid after first y same is out given = returns_first before mid after first y same is (returns mid after first y out given)
 
@@ -250,7 +250,7 @@ module _ {O : Type 0} (r : Running O) where
           read = x_;
           is = refl;
           from = from;
-          tells = ap (λ (u : LenderPass). u.told) is ∙ are.1;
+          tells = ap (λ (u : LenderPass). u.told_calls) is ∙ are.1;
           shows = λ h. (let same : total_weight h (view after.pass).shown ≡ total_weight h (v.shown ++ (holds.idle.more ++ x_ ∷ [])) = ap (λ (u : LenderPass). total_weight h u.shown) is ∙ ap (total_weight h) are.2 in omega (arith, same, total_both h v.shown (holds.idle.more ++ x_ ∷ []), total_both h holds.idle.more (x_ ∷ [])));
         }
 
@@ -269,13 +269,13 @@ module _ {O : Type 0} (r : Running O) where
           };
           back = none;
           limits = ap (λ (u : LenderPass). limits_at u.home) given;
-          tells = ap (λ (u : LenderPass). u.told) is ∙ shown.1;
+          tells = ap (λ (u : LenderPass). u.told_calls) is ∙ shown.1;
           shows = λ h. (let same : total_weight h (view after.pass).shown ≡ total_weight h (v.shown ++ idle.more) = ap (λ (u : LenderPass). total_weight h u.shown) is ∙ ap (total_weight h) shown.2 in omega (arith, same, total_both h v.shown idle.more));
         }
 
     -- a client that was told and shown nothing more from `a` to `b`, nor from `b` to `c`, was not from `a` to `c` either
     pub tells_on : (a b c : Lent) → TellsSame a b → TellsSame b c → TellsSame a c
-    tells_on a b c s t = record { limits = t.limits ∙ s.limits; told = t.told ∙ s.told; shown = t.shown ∙ s.shown; returned = t.returned ∙ s.returned }
+    tells_on a b c s t = record { limits = t.limits ∙ s.limits; told_calls = t.told_calls ∙ s.told_calls; shown = t.shown ∙ s.shown; returned = t.returned ∙ s.returned }
 
     -- a caller is kept with whatever it holds
     module _ (before mid after : Lent) (tells : TellsSame before mid) (first : Seated) (begins : IsFirstCaller before.kept (view mid.pass) first) (same : after.pass ≡ mid.pass) where
@@ -286,7 +286,7 @@ module _ {O : Type 0} (r : Running O) where
       part_kept part = part_like mid after (view mid.pass) part (ap (λ p. p.table_id) same ∙ part.pass.0, ap (λ p. p.me.1) same ∙ part.pass.1) w refl refl refl
 
       tells_kept : TellsSame before after
-      tells_kept = tells_on before mid after tells (record { limits = ap (λ (u : LenderPass). limits_at u.home) w; told = ap (λ (u : LenderPass). u.told) w; shown = ap (λ (u : LenderPass). u.shown) w; returned = ap (λ (u : LenderPass). u.returned) w })
+      tells_kept = tells_on before mid after tells (record { limits = ap (λ (u : LenderPass). limits_at u.home) w; told_calls = ap (λ (u : LenderPass). u.told_calls) w; shown = ap (λ (u : LenderPass). u.shown) w; returned = ap (λ (u : LenderPass). u.returned) w })
 
       first_kept : IsFirstCaller before.kept (view after.pass) first
       first_kept = subst (λ (u : LenderPass). IsFirstCaller before.kept u first) (sym w) begins
@@ -348,11 +348,12 @@ module _ {O : Type 0} (r : Running O) where
             is = refl;
           }
 
-      -- by a read beside the queue
+      -- a caller that was stopped in a read beside the queue is kept
       pub looking_stopped : (x : Seated) (s : StoppedSeat) → ComesFrom r first x → IsOut r table mid x → HaltsLater r x s → after.kept ≡ Some (Stopped s) → KeepsStopped r table (HaltsBesideQueue r) before after s.linked
       looking_stopped x s since out halts keeps =
           stopped_kept (HaltsBesideQueue r) halts.halts.op halts.asked halts.asked s (comes_on first x halts.asked since halts.since) halts.halts (out_on mid x halts.asked out halts.since.idle) (inr halts.halts.halted) keeps
 
+      -- a caller that was stopped as it caught up with a place is kept
       pub caught_stopped : (s : StoppedSeat) → IsOut r table mid first → CatchUpHalted r first s → after.kept ≡ Some (Stopped s) → KeepsStopped r table (CatchUpHalted r) before after s.linked
       caught_stopped s out halted keeps = stopped_kept (CatchUpHalted r) [] first first s (comes_first first out.holds.idle.caller) halted out (inr (caught_halted [] first s halted)) keeps
 
@@ -360,7 +361,7 @@ module _ {O : Type 0} (r : Running O) where
     pub stopped_so : (halts more : Seated → StoppedSeat → Type 0) → ((x : Seated) (s : StoppedSeat) → halts x s → more x s) → (before after : Lent) (linked : Option ℕ) → KeepsStopped r table halts before after linked → KeepsStopped r table more before after linked
     stopped_so halts more so before after linked k = record { lent = k.lent; tells = k.tells; first = k.first; begins = k.begins; asked = k.asked; since = k.since; stopped = k.stopped; halted = so k.asked k.stopped k.halted; keeps = k.keeps; is = k.is }
 
-    -- it may be given back
+    -- a caller whose update is answered may be given back
     done_back : (op : List ℕ) (lent : Lent) (x y : Seated) (answer : Answer) → IsOut r table lent x → UpdateDone r op x y answer → MayGive r lent y
     done_back op lent x y answer out done = record {
       caller = done.caller;
@@ -368,6 +369,7 @@ module _ {O : Type 0} (r : Running O) where
       first = (are_told r op out.holds.taken x y [] answer (view lent.pass) out.holds.held out.holds.idle done).0;
     }
 
+    -- a caller that caught up with a place, or found a lower one, may be given back
     pub idle_back : (lent : Lent) (x y : Seated) → IsOut r table lent x → IsCallerOf r y → CatchUpKeeps x y → IsCallerOf r y × HasLimit (limits_at (view lent.pass).home) y × IsFirstOf (view lent.pass).held y
     idle_back lent x y out is keeps = (
       is,
@@ -395,15 +397,16 @@ module _ {O : Type 0} (r : Running O) where
 
     -- it was given back, and its entry told
     module _ (op reply : List ℕ) (floor : ℕ) (before mid after : Lent) where
-      entry_told : (x y : Seated) (caller : ℕ) (answer : Answer) → TellsSame before mid → IsOut r table mid x → floor ≤ x.known.local.front → UpdateDone r op x y answer → caller ≡ y.known.local.number → y.known.local.front ≤ 2 ^ 40 → GivesBack table mid after y
+      -- the caller of an answered update was given back, and its entry was told to the client
+      tells_entry : (x y : Seated) (caller : ℕ) (answer : Answer) → TellsSame before mid → IsOut r table mid x → floor ≤ x.known.local.front → UpdateDone r op x y answer → caller ≡ y.known.local.number → y.known.local.front ≤ 2 ^ 40 → GivesBack table mid after y
           → TellsEntry r table op floor x before after caller answer
-      entry_told x y caller answer same out floor_ done number front back =
+      tells_entry x y caller answer same out floor_ done number front back =
           let v = view mid.pass in
           let holds = out.holds in
-          let t = told_with x.known.local.number (next_entry r x.known.local op answer.ticket) answer in
+          let t = call_with x.known.local.number (next_entry r x.known.local op answer.ticket) answer in
           let is = back.view_is in
           let given : view after.pass ≡ given_from v (holds.taken ∷ []) y = is ∙ ap (λ l. given_from v l y) holds.held in
-          let told = are_told r op holds.taken x y [] answer v holds.held holds.idle done in
+          let is_told = are_told r op holds.taken x y [] answer v holds.held holds.idle done in
           let new = drop (length holds.taken.known.local.seen_reads) y.known.local.seen_reads in
           let none : after.kept ≡ None = back.kept ∙ out.none in
           record {
@@ -413,19 +416,19 @@ module _ {O : Type 0} (r : Running O) where
             };
             back = none;
             limits = ap (λ (u : LenderPass). limits_at u.home) given ∙ same.limits;
-            told = t;
+            call = t;
             entry = refl;
             is = (sym done.links.number ∙ sym number, refl);
             op_is = refl;
             ticket = refl;
             from = omega (arith, floor_, done.from);
             small = (let below = own_below op x y answer done in omega (arith, below, front));
-            tells = ap (λ (u : LenderPass). u.told) is ∙ told.1 ∙ ap (λ (l : List AnsweredCall). l ++ t ∷ []) same.told;
+            tells = ap (λ (u : LenderPass). u.told_calls) is ∙ is_told.1 ∙ ap (λ (l : List AnsweredCall). l ++ t ∷ []) same.told_calls;
             shows = λ h. (let first : total_weight h v.shown ≡ total_weight h (view before.pass).shown = ap (total_weight h) same.shown in let more : total_weight h (view after.pass).shown ≡ total_weight h (v.shown ++ new) = ap (λ (u : LenderPass). total_weight h u.shown) given in omega (arith, first, more, total_both h v.shown new));
           }
 
-      -- which is what its caller answered
-      answered : (way : Seated → Seated → Type 0) (first x y : Seated) (caller : ℕ) (answer : Answer) → ReturnsFirst before after first y → way first x → UpdateDone r op x y answer → (t : TellsEntry r table op floor x before after caller answer) → IsClientAnswered r way op before after t.told
+      -- the call that the client was told is what its caller answered
+      answered : (way : Seated → Seated → Type 0) (first x y : Seated) (caller : ℕ) (answer : Answer) → ReturnsFirst before after first y → way first x → UpdateDone r op x y answer → (t : TellsEntry r table op floor x before after caller answer) → IsClientAnswered r way op before after t.call
       answered way first x y caller answer back came done t = record {
         first = first;
         asked = x;
@@ -433,28 +436,28 @@ module _ {O : Type 0} (r : Running O) where
         now = y;
         returns = back;
         done = subst (UpdateDone r op x y) (sym t.is.1) done;
-        entry = subst (λ (a : Answer). t.told ≡ told_with x.known.local.number (next_entry r x.known.local op a.ticket) a) (sym t.is.1) t.entry;
+        entry = subst (λ (a : Answer). t.call ≡ call_with x.known.local.number (next_entry r x.known.local op a.ticket) a) (sym t.is.1) t.entry;
       }
 
-      -- by an update
-      pub update_told : (x : Seated) (caller ticket : ℕ) → IsBegun r table floor before mid x → (u : Updated) → Updates r op reply x u → Settles table mid after u (Done caller ticket) → (t : TellsEntry r table op floor x before after caller (answer_with ticket reply)) × IsClientAnswered r (ComesFrom r) op before after t.told
-      update_told x caller ticket begun u is s =
+      -- what an update comes to that is answered: its entry was told, and is what its caller answered
+      pub update_done : (x : Seated) (caller ticket : ℕ) → IsBegun r table floor before mid x → (u : Updated) → Updates r op reply x u → Settles table mid after u (Done caller ticket) → (t : TellsEntry r table op floor x before after caller (answer_with ticket reply)) × IsClientAnswered r (ComesFrom r) op before after t.call
+      update_done x caller ticket begun u is s =
           let answer = answer_with ticket reply in
           let done : UpdateDone r op x s.0 answer = subst (Updates r op reply x) s.1 is in
-          let t = entry_told x s.0 caller answer begun.tells begun.out begun.from done s.2 s.3 s.4 in
+          let t = tells_entry x s.0 caller answer begun.tells begun.out begun.from done s.2 s.3 s.4 in
           let back = returns_first before mid after begun.first s.0 begun.tells begun.is (returns mid after x s.0 begun.out s.4.view_is) in
           (t, answered (ComesFrom r) begun.first x s.0 caller answer back begun.since done t)
 
-      -- by a read that entered the queue
-      pub read_told : (x : Seated) (caller ticket : ℕ) → IsBegun r table floor before mid x → LooksOn r table op reply x mid after (Done caller ticket) → (a : Seated) × (t : TellsEntry r table op floor a before after caller (answer_with ticket reply)) × IsClientAnswered r (IsReadRefused r) op before after t.told
-      read_told x caller ticket begun l =
+      -- what a read comes to that entered the queue and is answered: its entry was told, and is what its caller answered
+      pub read_done : (x : Seated) (caller ticket : ℕ) → IsBegun r table floor before mid x → LooksOn r table op reply x mid after (Done caller ticket) → (a : Seated) × (t : TellsEntry r table op floor a before after caller (answer_with ticket reply)) × IsClientAnswered r (IsReadRefused r) op before after t.call
+      read_done x caller ticket begun l =
           let answer = answer_with ticket reply in
           let s = l.settles in
           let q : ReadQueues r op reply l.asked (UpdatedDone s.0 ticket) = subst (EntersRead r op reply l.asked) s.1 l.enters in
           let out = queued_out op reply mid l.asked (UpdatedDone s.0 ticket) (out_on mid x l.asked begun.out l.since.idle) q in
           let front = l.since.front in
           let kept = q.pending.keeps.front in
-          let t = entry_told q.refused s.0 caller answer begun.tells out (omega (arith, begun.from, front, kept)) q.entered s.2 s.3 s.4 in
+          let t = tells_entry q.refused s.0 caller answer begun.tells out (omega (arith, begun.from, front, kept)) q.entered s.2 s.3 s.4 in
           let came : IsReadRefused r begun.first q.refused = record { looked = l.asked; since = comes_on begun.first x l.asked begun.since l.since; refused = q.pending } in
           let back = returns_first before mid after begun.first s.0 begun.tells begun.is (returns mid after q.refused s.0 out s.4.view_is) in
           (q.refused, t, answered (IsReadRefused r) begun.first q.refused s.0 caller answer back came q.entered t)
@@ -516,7 +519,7 @@ module _ {O : Type 0} (r : Running O) where
         read = t.read;
         is = t.is;
         from = t.from;
-        tells = t.tells ∙ same.told;
+        tells = t.tells ∙ same.told_calls;
         shows = λ h. (let same_ : total_weight h (view mid.pass).shown ≡ total_weight h (view before.pass).shown = ap (total_weight h) same.shown in omega (arith, same_, t.shows h));
       }
 
@@ -525,10 +528,10 @@ module _ {O : Type 0} (r : Running O) where
         lent = t.lent;
         back = t.back;
         limits = t.limits ∙ same.limits;
-        tells = t.tells ∙ same.told;
+        tells = t.tells ∙ same.told_calls;
         shows = λ h. (let same_ : total_weight h (view mid.pass).shown ≡ total_weight h (view before.pass).shown = ap (total_weight h) same.shown in omega (arith, same_, t.shows h));
       }
 
-      -- so it was where it caught up with a place, or found a lower one
+      -- a caller that caught up with a place, or found a lower one, was given back with no call more
       pub caught_given : (x y : Seated) → IsOut r table mid x → IsCallerOf r y → CatchUpKeeps x y → after.kept ≡ mid.kept → (after.pass.table_id ≡ table) × (after.pass.me.1 ≡ []) → view after.pass ≡ with_given (view mid.pass) y → IsGivenBack r table before after
       caught_given x y out is keeps kept pass view_is = given_since (given_back mid after x y out (caught_on x y is keeps) (kept ∙ out.none) pass view_is)

@@ -92,7 +92,7 @@ module _ {O : Type 0} (r : Running O) where
       parts = (let parts = placed.parts in omega (arith, parts, few));
       placed = placed.placed;
       held = placed.held;
-      told = placed.told;
+      told_calls = placed.told_calls;
       shown = placed.shown;
     })
 
@@ -103,7 +103,7 @@ module _ {O : Type 0} (r : Running O) where
       parts = placed.parts;
       placed = placed.placed;
       held = placed.held;
-      told = placed.told;
+      told_calls = placed.told_calls;
       shown = placed.shown;
     }
 
@@ -128,7 +128,7 @@ module _ {O : Type 0} (r : Running O) where
         answers = ap (λ v. v.items) answers ∙ new.calls.answers;
         floor = floor ∙ new.calls.floor;
         in_turn = new.calls.in_turn;
-        told = ap (λ (l : Lent). (view l.pass).told) lent ∙ new.calls.told;
+        told_calls = ap (λ (l : Lent). (view l.pass).told_calls) lent ∙ new.calls.told_calls;
         shown = λ h. (let same : total_weight h (view x.lent.pass).shown ≡ total_weight h (view m.lent.pass).shown = ap (λ (l : Lent). total_weight h (view l.pass).shown) lent in omega (arith, same, new.calls.shown h));
       }));
     }

@@ -48,9 +48,9 @@ list_is (x ∷ xs) (y ∷ ys) lt =
     let are = both_are (one_at x y) (same_list xs ys) lt in
     ap (λ (k : ℕ). k ∷ xs) (one_is x y are.0) ∙ ap (λ (l : List ℕ). y ∷ l) (list_is xs ys are.1)
 
--- 1 at a call, and 0 at others
-abbrev pub same_told : AnsweredCall → AnsweredCall → ℕ
-same_told t u =
+-- 1 where two calls are the same, and 0 at others
+abbrev pub same_call : AnsweredCall → AnsweredCall → ℕ
+same_call t u =
     both_of (one_at t.caller u.caller)
     (both_of (one_at t.entry.ticket u.entry.ticket)
     (both_of (one_at t.entry.entry.caller u.entry.entry.caller)
@@ -59,8 +59,8 @@ same_told t u =
     (both_of (one_at t.answer.ticket u.answer.ticket)
     (same_list t.answer.reply u.answer.reply))))))
 
-pub told_self : (t : AnsweredCall) → same_told t t ≡ 1
-told_self t =
+pub call_self : (t : AnsweredCall) → same_call t t ≡ 1
+call_self t =
     both_one _ _ (one_self t.caller)
     (both_one _ _ (one_self t.entry.ticket)
     (both_one _ _ (one_self t.entry.entry.caller)
@@ -69,27 +69,27 @@ told_self t =
     (both_one _ _ (one_self t.answer.ticket)
     (list_self t.answer.reply))))))
 
-told_of : ℕ → ℕ → ℕ → ℕ → List ℕ → ℕ → List ℕ → AnsweredCall
-told_of caller ticket of number op at reply = record { caller = caller; entry = record { ticket = ticket; entry = record { caller = of; number = number; op = op } }; answer = record { ticket = at; reply = reply } }
+call_of : ℕ → ℕ → ℕ → ℕ → List ℕ → ℕ → List ℕ → AnsweredCall
+call_of caller ticket of number op at reply = record { caller = caller; entry = record { ticket = ticket; entry = record { caller = of; number = number; op = op } }; answer = record { ticket = at; reply = reply } }
 
-pub told_is : (t u : AnsweredCall) → 0 < same_told t u → t ≡ u
-unfolding told_of
-told_is t u lt =
+pub call_is : (t u : AnsweredCall) → 0 < same_call t u → t ≡ u
+unfolding call_of
+call_is t u lt =
     let a = both_are _ _ lt in
     let b = both_are _ _ a.1 in
     let c = both_are _ _ b.1 in
     let d = both_are _ _ c.1 in
     let e = both_are _ _ d.1 in
     let f = both_are _ _ e.1 in
-    ap (λ k. told_of k t.entry.ticket t.entry.entry.caller t.entry.entry.number t.entry.entry.op t.answer.ticket t.answer.reply) (one_is t.caller u.caller a.0)
-    ∙ ap (λ k. told_of u.caller k t.entry.entry.caller t.entry.entry.number t.entry.entry.op t.answer.ticket t.answer.reply) (one_is t.entry.ticket u.entry.ticket b.0)
-    ∙ ap (λ k. told_of u.caller u.entry.ticket k t.entry.entry.number t.entry.entry.op t.answer.ticket t.answer.reply) (one_is t.entry.entry.caller u.entry.entry.caller c.0)
-    ∙ ap (λ k. told_of u.caller u.entry.ticket u.entry.entry.caller k t.entry.entry.op t.answer.ticket t.answer.reply) (one_is t.entry.entry.number u.entry.entry.number d.0)
-    ∙ ap (λ l. told_of u.caller u.entry.ticket u.entry.entry.caller u.entry.entry.number l t.answer.ticket t.answer.reply) (list_is t.entry.entry.op u.entry.entry.op e.0)
-    ∙ ap (λ k. told_of u.caller u.entry.ticket u.entry.entry.caller u.entry.entry.number u.entry.entry.op k t.answer.reply) (one_is t.answer.ticket u.answer.ticket f.0)
-    ∙ ap (λ l. told_of u.caller u.entry.ticket u.entry.entry.caller u.entry.entry.number u.entry.entry.op u.answer.ticket l) (list_is t.answer.reply u.answer.reply f.1)
+    ap (λ k. call_of k t.entry.ticket t.entry.entry.caller t.entry.entry.number t.entry.entry.op t.answer.ticket t.answer.reply) (one_is t.caller u.caller a.0)
+    ∙ ap (λ k. call_of u.caller k t.entry.entry.caller t.entry.entry.number t.entry.entry.op t.answer.ticket t.answer.reply) (one_is t.entry.ticket u.entry.ticket b.0)
+    ∙ ap (λ k. call_of u.caller u.entry.ticket k t.entry.entry.number t.entry.entry.op t.answer.ticket t.answer.reply) (one_is t.entry.entry.caller u.entry.entry.caller c.0)
+    ∙ ap (λ k. call_of u.caller u.entry.ticket u.entry.entry.caller k t.entry.entry.op t.answer.ticket t.answer.reply) (one_is t.entry.entry.number u.entry.entry.number d.0)
+    ∙ ap (λ l. call_of u.caller u.entry.ticket u.entry.entry.caller u.entry.entry.number l t.answer.ticket t.answer.reply) (list_is t.entry.entry.op u.entry.entry.op e.0)
+    ∙ ap (λ k. call_of u.caller u.entry.ticket u.entry.entry.caller u.entry.entry.number u.entry.entry.op k t.answer.reply) (one_is t.answer.ticket u.answer.ticket f.0)
+    ∙ ap (λ l. call_of u.caller u.entry.ticket u.entry.entry.caller u.entry.entry.number u.entry.entry.op u.answer.ticket l) (list_is t.answer.reply u.answer.reply f.1)
 
--- and of reads
+-- 1 where two reads are the same, and 0 at others
 abbrev pub same_read : SeenRead → SeenRead → ℕ
 same_read x y = both_of (one_at x.place y.place) (both_of (same_list x.op y.op) (both_of (same_list x.reply y.reply) (one_at x.before y.before)))
 

@@ -140,23 +140,23 @@ module _ {O : Type 0} (r : Running O) where
   pub are_whole : (history : List HistoryEntry) (handed : List Handed) (clients : List Client) → IsHistory r.base.place history (locals_of (seats_of handed)) → AreCallsTold r (lents_of clients) handed
       → All (λ (c : Client). is_live c.lent.kept ≡ true) clients → (calls : List (List Call)) → AllZip (HasCalls r) clients calls → ((ticket : ℕ) → total_weight (answers_at ticket) calls ≤ 1) → AreWhole r.base.place history calls
   unfolding busy
-  are_whole history handed clients merged told live calls are once =
-      let idle : total_weight busy handed ≡ 0 = told.others busy (λ s. refl) ∙ none_busy clients live in
-      let few = told.few (λ (n : ℕ). 1) in
+  are_whole history handed clients merged are_told live calls are once =
+      let idle : total_weight busy handed ≡ 0 = are_told.others busy (λ s. refl) ∙ none_busy clients live in
+      let few = are_told.few (λ (n : ℕ). 1) in
       let stops = stops_busy handed in
       let all : (h : AnsweredCall → ℕ) → total_weight (λ (cs : List Call). total_weight h (entries_called cs)) calls ≡ total_weight (handed_calls h) handed = λ h. (
-      let none = no_weight h told.untold (omega (arith, few, stops, idle)) in
+      let none = no_weight h are_told.untold (omega (arith, few, stops, idle)) in
       let same = weighs r h clients calls are in
-      let told_ = told.calls h in
-      omega (arith, none, same, told_)) in
+      let account = are_told.calls h in
+      omega (arith, none, same, account)) in
       record {
-        all = λ ticket from below. (let one = once ticket in let has = has_call r.base.place history handed merged told.of idle ticket from below in let same = all (λ (t : AnsweredCall). one_at ticket t.entry.ticket) in omega (arith, one, has, same));
-        count = (let long = lengths calls in let same = all (λ (t : AnsweredCall). 1) in let count = counted handed told.of idle in let own = own_count r.base.place history (locals_of (seats_of handed)) merged in omega (arith, long, same, count, own));
+        all = λ ticket from below. (let one = once ticket in let has = has_call r.base.place history handed merged are_told.of idle ticket from below in let same = all (λ (t : AnsweredCall). one_at ticket t.entry.ticket) in omega (arith, one, has, same));
+        count = (let long = lengths calls in let same = all (λ (t : AnsweredCall). 1) in let count = counted handed are_told.of idle in let own = own_count r.base.place history (locals_of (seats_of handed)) merged in omega (arith, long, same, count, own));
       }
 
 -- the front of a caller that a client keeps is not past the history
 module _ {O : Type 0} (r : Running O) (instance : Instance) (handed : List Handed) (remains : Remains) (clients : List Client) (place : instance.base.place ≡ r.base.place) (leaves : ClosingWitness r instance (seats_of handed) remains)
-    (told : AreCallsTold r (lents_of clients) handed) where
+    (are_told : AreCallsTold r (lents_of clients) handed) where
   lent_at : (cs : List Client) (i : ℕ) (client : Client) → slice_get cs i ≡ Some client → slice_get (lents_of cs) i ≡ Some client.lent
   lent_at [] i client at = absurd (none-some client at)
   lent_at (c ∷ cs) zero client at = ap (λ (x : Client). Some x.lent) (same_Some c client at)
@@ -169,7 +169,7 @@ module _ {O : Type 0} (r : Running O) (instance : Instance) (handed : List Hande
       let here : lent_kept f client.lent ≡ f (Idle now) + 0 = ap (λ (k : Option Handed). total_weight f (kept_list k)) keeps in
       let one : f (Idle now) ≡ 1 = one_self front in
       let in_lents = weighs_in (lent_kept f) (lents_of clients) i client.lent (lent_at clients i client at) in
-      let most = told.kept f in
+      let most = are_told.kept f in
       let g = found f handed (omega (arith, here, one, in_lents, most)) in
       let same = one_is front (seat_of g.1).known.local.front g.3 in
       let b = behind r instance handed remains leaves g.0 g.1 g.2 in

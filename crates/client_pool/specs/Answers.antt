@@ -17,11 +17,11 @@ use Rattle.client_pool.specs.declared.call.Call.{Call}
 use Rattle.client_pool.specs.declared.call.Call.TheVariants.{Entry, Look}
 
 -- the entry is this caller's, the history has it at the answer's ticket, and the answer is the object's reply after all entries with lower tickets
-pub record IsEntryOf (instance : Instance) (history : List HistoryEntry) (told : AnsweredCall) : Type 0 where
-  pub ticket : told.entry.ticket ≡ told.answer.ticket
-  pub caller : told.entry.entry.caller ≡ told.caller
-  pub linked : IsLinked instance.base.place history told.answer.ticket told.entry.entry
-  pub reply : told.answer.reply ≡ reply_after instance history told.answer.ticket told.entry.entry.op
+pub record IsEntryOf (instance : Instance) (history : List HistoryEntry) (call : AnsweredCall) : Type 0 where
+  pub ticket : call.entry.ticket ≡ call.answer.ticket
+  pub caller : call.entry.entry.caller ≡ call.caller
+  pub linked : IsLinked instance.base.place history call.answer.ticket call.entry.entry
+  pub reply : call.answer.reply ≡ reply_after instance history call.answer.ticket call.entry.entry.op
 
 -- the read's place is in the history, and its reply is the object's after the entries below that
 pub record IsReadOf (instance : Instance) (history : List HistoryEntry) (read : SeenRead) : Type 0 where
@@ -29,18 +29,20 @@ pub record IsReadOf (instance : Instance) (history : List HistoryEntry) (read : 
   pub to : read.place ≤ instance.base.place + length history
   pub reply : read.reply ≡ reply_after instance history read.place read.op
 
+-- a call is one of the history: as an entry of it, or as a read at a place in it
 abbrev pub IsCallOf : Instance → List HistoryEntry → Call → Type 0
-IsCallOf instance history (Entry told) = IsEntryOf instance history told
+IsCallOf instance history (Entry call) = IsEntryOf instance history call
 IsCallOf instance history (Look read) = IsReadOf instance history read
 
--- the entry and its answer stand in the lists of the caller that is named, both at this index, and the read in those of some caller
-pub record IsCallersEntry (locals : List Local) (told : AnsweredCall) : Type 0 where
+-- the entry and its answer stand in the lists of the caller that is named, both at this index
+pub record IsCallersEntry (locals : List Local) (call : AnsweredCall) : Type 0 where
   pub local : Local
-  pub of_caller : slice_get locals told.caller ≡ Some local
+  pub of_caller : slice_get locals call.caller ≡ Some local
   pub index : ℕ
-  pub own : slice_get local.own index ≡ Some told.entry
-  pub answered : slice_get local.answered index ≡ Some told.answer
+  pub own : slice_get local.own index ≡ Some call.entry
+  pub answered : slice_get local.answered index ≡ Some call.answer
 
+-- the read stands in the list of some caller, at this index
 pub record IsCallersRead (locals : List Local) (read : SeenRead) : Type 0 where
   pub caller : ℕ
   pub local : Local
@@ -48,13 +50,14 @@ pub record IsCallersRead (locals : List Local) (read : SeenRead) : Type 0 where
   pub index : ℕ
   pub seen : slice_get local.seen_reads index ≡ Some read
 
+-- a call is one of these callers'
 abbrev pub IsCallersCall : List Local → Call → Type 0
-IsCallersCall locals (Entry told) = IsCallersEntry locals told
+IsCallersCall locals (Entry call) = IsCallersEntry locals call
 IsCallersCall locals (Look read) = IsCallersRead locals read
 
 -- the operation that a call is: of which caller, and which one there
 abbrev pub operation_of : (locals : List Local) (call : Call) → IsCallersCall locals call → Operation
-operation_of locals (Entry told) is = Update told.caller is.index
+operation_of locals (Entry call) is = Update call.caller is.index
 operation_of locals (Look read) is = Read is.caller is.index
 
 -- a call of a caller stands in an order of all operations, as that operation

@@ -1,5 +1,5 @@
 -- A client of a pool, and the results of its calls.
-use Rattle.std.specs.Prelude.{◌≡◌, ◌+◌, ◌<◌, ◌≤◌, ◌⊎◌, ℕ, Bool, true, max, List, [], ◌∷◌, ◌++◌, None, length, map, vec_capacity, vec_len}
+use Rattle.std.specs.Prelude.{◌≡◌, ◌+◌, ◌<◌, ◌≤◌, ◌⊎◌, ℕ, Bool, max, List, [], ◌∷◌, ◌++◌, None, length, map, vec_capacity, vec_len}
 use Rattle.atomic_table.specs.Seated.{TableId}
 use Rattle.crossbeam_queue.specs.Passes.{view}
 use Rattle.cx_core.specs.declared.local.Answer.{Answer}
@@ -13,7 +13,7 @@ use Rattle.cx_service.specs.Lookups.{ReadAnswered, seen_with}
 use Rattle.cx_service.specs.Submits.{next_entry}
 use Rattle.cx_service.specs.Updates.{ReadStops, UpdateDone, UpdateHalted}
 use Rattle.cx_attempts.specs.declared.lookup.Seen.{Seen}
-use Rattle.seat_pool.specs.Pooling.{told_with, total_weight}
+use Rattle.seat_pool.specs.Pooling.{call_with, total_weight}
 use Rattle.seat_pool.specs.declared.hand.AnsweredCall.{AnsweredCall}
 use Rattle.seat_pool.specs.declared.lent.Lent.{Lent}
 use Rattle.client_pool.specs.declared.call.Answered.{Answered}
@@ -28,20 +28,21 @@ use Rattle.client_pool.specs.declared.pool.Pooled.{Pooled}
 use Rattle.client_pool.specs.declared.pool.Pooled.TheVariants.{Done, Full, Worn, Stopped, Memory}
 use Rattle.client_pool.specs.declared.pool.PooledRead.{PooledRead}
 use Rattle.client_pool.specs.declared.pool.PooledRead.TheVariants.{Read as ReadSeen, Queued, Full as FullRead, Worn as WornRead, Stopped as StoppedRead, Memory as MemoryRead}
-use Rattle.client_pool.specs.Lending.{ComesFrom, HaltsBesideQueue, IsLentTo, IsPool, IsReadRefused, KeepsFull, KeepsStopped, KeepsWorn, ReturnsFirst, is_live, limits_of}
+use Rattle.client_pool.specs.Lending.{ComesFrom, HaltsBesideQueue, IsLentTo, IsReadRefused, KeepsFull, KeepsStopped, KeepsWorn, MayLend, ReturnsFirst, limits_of}
 
 -- what its client sees of a call
 abbrev pub answered_by : Call → Answered
-answered_by (Entry told) = Updated told.caller told.answer
+answered_by (Entry call) = Updated call.caller call.answer
 answered_by (Look read) = Read (record { place = read.place; reply = read.reply })
 
--- where its answer holds, and below which place no later answer of the client does
+-- the place at which the answer of a call holds: of an entry its ticket, and of a read its place
 abbrev pub answer_place_of : Call → ℕ
-answer_place_of (Entry told) = told.answer.ticket
+answer_place_of (Entry call) = call.answer.ticket
 answer_place_of (Look read) = read.place
 
+-- the place below which no later answer of the client holds: behind an entry the next one, and behind a read its own
 abbrev pub next_place_of : Call → ℕ
-next_place_of (Entry told) = told.answer.ticket + 1
+next_place_of (Entry call) = call.answer.ticket + 1
 next_place_of (Look read) = read.place
 
 -- the floor behind calls, from a floor on
@@ -54,15 +55,16 @@ abbrev pub AreInTurn : ℕ → List Call → Type 0
 AreInTurn floor [] = Unit {0}
 AreInTurn floor (call ∷ calls) = (floor ≤ answer_place_of call) × AreInTurn (next_place_of call) calls
 
--- the entries among calls, and the reads
+-- the entries among calls, in order
 abbrev pub entries_called : List Call → List AnsweredCall
 entries_called [] = []
-entries_called (Entry told ∷ calls) = told ∷ entries_called calls
+entries_called (Entry call ∷ calls) = call ∷ entries_called calls
 entries_called (Look read ∷ calls) = entries_called calls
 
+-- the reads among calls, in order
 abbrev pub reads_called : List Call → List SeenRead
 reads_called [] = []
-reads_called (Entry told ∷ calls) = reads_called calls
+reads_called (Entry call ∷ calls) = reads_called calls
 reads_called (Look read ∷ calls) = read ∷ reads_called calls
 
 -- A client of a service made these calls, in this order: its answers are theirs, it was told their entries and shown their reads, and no answer holds below
@@ -71,20 +73,18 @@ pub record HasCalls {O : Type 0} (r : Running O) (client : Client) (calls : List
   pub answers : client.answers.items ≡ map answered_by calls
   pub floor : client.floor ≡ floor_after r.base.place calls
   pub in_turn : AreInTurn r.base.place calls
-  pub told : (view client.lent.pass).told ≡ entries_called calls
+  pub told_calls : (view client.lent.pass).told_calls ≡ entries_called calls
   pub shown : (h : SeenRead → ℕ) → total_weight h (reads_called calls) ≤ total_weight h (view client.lent.pass).shown
 
 -- a client between its calls
 abbrev pub IsClientOf : {O : Type 0} → Running O → TableId → Client → Type 0
 IsClientOf r table client = IsLentTo r table client.lent
 
--- a client of the pool may call: its caller is not stopped
-pub record MayCall {O : Type 0} (reads : O → List ℕ → Bool) (pool : Pool O) (client : Client) : Type 0 where
-  pub pool_is : IsPool reads pool
-  pub client_is : IsClientOf pool.service pool.line.table.shared.table_id client
-  pub live : is_live client.lent.kept ≡ true
+-- a client of the pool may call: it is a client of the pool, and its caller is not stopped
+abbrev pub MayCall : {O : Type 0} → (O → List ℕ → Bool) → Pool O → Client → Type 0
+MayCall reads pool client = MayLend reads pool client.lent
 
--- its number, the limits of its service's callers, and what it has for the closing
+-- a client keeps its number, the limits of its service's callers, and what it has for the closing
 pub record IsSameClient (before after : Client) : Type 0 where
   pub number : after.number ≡ before.number
   pub limits : limits_of after.lent ≡ limits_of before.lent
@@ -101,20 +101,20 @@ pub record HasMade {O : Type 0} (r : Running O) (table : TableId) (before after 
 
 -- the call is an entry of this operation, with this answer
 pub record HasUpdated {O : Type 0} (r : Running O) (table : TableId) (op : List ℕ) (before after : Client) (answer : Answer) : Type 0 where
-  pub told : AnsweredCall
-  pub is : (told.answer ≡ answer) × (told.entry.ticket ≡ answer.ticket) × (told.entry.entry.op ≡ op)
-  pub made : HasMade r table before after (Entry told)
+  pub call : AnsweredCall
+  pub is : (call.answer ≡ answer) × (call.entry.ticket ≡ answer.ticket) × (call.entry.entry.op ≡ op)
+  pub made : HasMade r table before after (Entry call)
 
 -- The entry and its answer are of the caller that was asked, the one that the client kept or else one out of the queue, which entered the queue in this way and
 -- was answered so in this call, and was given back so.
-pub record IsClientAnswered {O : Type 0} (r : Running O) (way : Seated → Seated → Type 0) (op : List ℕ) (before after : Lent) (told : AnsweredCall) : Type 0 where
+pub record IsClientAnswered {O : Type 0} (r : Running O) (way : Seated → Seated → Type 0) (op : List ℕ) (before after : Lent) (call : AnsweredCall) : Type 0 where
   pub first : Seated
   pub asked : Seated
   pub came : way first asked
   pub now : Seated
   pub returns : ReturnsFirst before after first now
-  pub done : UpdateDone r op asked now told.answer
-  pub entry : told ≡ told_with asked.known.local.number (next_entry r asked.known.local op told.answer.ticket) told.answer
+  pub done : UpdateDone r op asked now call.answer
+  pub entry : call ≡ call_with asked.known.local.number (next_entry r asked.known.local op call.answer.ticket) call.answer
 
 -- the call is a read of this operation, answered beside the queue
 pub record HasRead {O : Type 0} (r : Running O) (table : TableId) (op : List ℕ) (before after : Client) (seen : Seen) : Type 0 where
@@ -179,13 +179,13 @@ pub record WantsRoom (before after : Client) : Type 0 where
 abbrev pub HaltsClientUpdate : {O : Type 0} → Running O → List ℕ → Seated → StoppedSeat → Type 0
 HaltsClientUpdate r op asked stopped = HaltsBesideQueue r asked stopped ⊎ UpdateHalted r op asked stopped
 
--- how a read does
+-- how a read of this operation stops its caller: in seeing what is below the floor, or in the read itself
 abbrev pub HaltsClientRead : {O : Type 0} → Running O → List ℕ → Seated → StoppedSeat → Type 0
 HaltsClientRead r op asked stopped = HaltsBesideQueue r asked stopped ⊎ ReadStops r op asked stopped
 
 -- The result of an update of this operation, which left these words in the client's buffer. The caller that the client keeps makes the call, where it keeps one.
 abbrev pub UpdatesForClient : {O : Type 0} → Running O → TableId → List ℕ → List ℕ → Client → Client → Pooled → Type 0
-UpdatesForClient r table op reply before after (Done ticket) = (made : HasUpdated r table op before after (answer_with ticket reply)) × IsClientAnswered r (ComesFrom r) op before.lent after.lent made.told
+UpdatesForClient r table op reply before after (Done ticket) = (made : HasUpdated r table op before after (answer_with ticket reply)) × IsClientAnswered r (ComesFrom r) op before.lent after.lent made.call
 UpdatesForClient r table op reply before after (Full note) = HasNoMore r table before after × KeepsFull r table (ComesFrom r) before.lent after.lent note
 UpdatesForClient r table op reply before after Worn = HasNoMore r table before after × KeepsWorn r table (ComesFrom r) before.lent after.lent
 UpdatesForClient r table op reply before after (Stopped linked) = HasNoMore r table before after × KeepsStopped r table (HaltsClientUpdate r op) before.lent after.lent linked
@@ -194,7 +194,7 @@ UpdatesForClient r table op reply before after Memory = HasNoMore r table before
 -- The result of a read of this operation, which left these words in the client's buffer. The same caller makes it. It enters the queue only where it met eight refusals beside it.
 abbrev pub ReadsForClient : {O : Type 0} → Running O → TableId → List ℕ → List ℕ → Client → Client → PooledRead → Type 0
 ReadsForClient r table op reply before after (ReadSeen place) = (made : HasRead r table op before after (seen_with place reply)) × IsReadShown r op before.lent after.lent made.read
-ReadsForClient r table op reply before after (Queued ticket) = (made : HasUpdated r table op before after (answer_with ticket reply)) × IsClientAnswered r (IsReadRefused r) op before.lent after.lent made.told
+ReadsForClient r table op reply before after (Queued ticket) = (made : HasUpdated r table op before after (answer_with ticket reply)) × IsClientAnswered r (IsReadRefused r) op before.lent after.lent made.call
 ReadsForClient r table op reply before after (FullRead note) = HasNoMore r table before after × KeepsFull r table (IsReadRefused r) before.lent after.lent note
 ReadsForClient r table op reply before after WornRead = HasNoMore r table before after × KeepsWorn r table (IsReadRefused r) before.lent after.lent
 ReadsForClient r table op reply before after (StoppedRead linked) = HasNoMore r table before after × KeepsStopped r table (HaltsClientRead r op) before.lent after.lent linked

@@ -32,7 +32,7 @@ use Rattle.client_pool.specs.declared.read_beside.LookupOutcome.TheVariants.{Fou
 use Rattle.client_pool.specs.declared.lend.EntryOutcome.{EntryOutcome}
 use Rattle.client_pool.specs.declared.lend.EntryOutcome.TheVariants.{Done, Full, Worn, Halted}
 
--- its pass is one of the queue of this table, with one part
+-- the pass of a client is one of the queue of this table, with one part, and placed no caller
 pub record IsPart {O : Type 0} (r : Running O) (table : TableId) (lent : Lent) : Type 0 where
   pub pass : (lent.pass.table_id ≡ table) × (lent.pass.me.1 ≡ [])
   pub home : IsHomeOf r (view lent.pass).home
@@ -65,7 +65,7 @@ is_live (Some (Idle now)) = true
 is_live (Some (Linked seat)) = false
 is_live (Some (Stopped stopped)) = false
 
--- this caller is out for a call of the client
+-- a caller is out for a call of a client, which keeps no other
 pub record IsOut {O : Type 0} (r : Running O) (table : TableId) (lent : Lent) (now : Seated) : Type 0 where
   pub part : IsPart r table lent
   pub none : lent.kept ≡ None
@@ -78,11 +78,11 @@ limits_of lent = limits_at (view lent.pass).home
 -- the client was told nothing more, and shown nothing more, and no caller was given back
 pub record TellsSame (before after : Lent) : Type 0 where
   pub limits : limits_of after ≡ limits_of before
-  pub told : (view after.pass).told ≡ (view before.pass).told
+  pub told_calls : (view after.pass).told_calls ≡ (view before.pass).told_calls
   pub shown : (view after.pass).shown ≡ (view before.pass).shown
   pub returned : (view after.pass).returned ≡ (view before.pass).returned
 
--- it is the caller that a client keeps, where it keeps one
+-- a caller is the one that a client keeps, where it keeps one
 abbrev pub IsKeptCaller : Option Handed → Seated → Type 0
 IsKeptCaller None x = Unit {0}
 IsKeptCaller (Some handed) x = seat_of handed ≡ x
@@ -115,7 +115,7 @@ pub record ComesFrom {O : Type 0} (r : Running O) (first now : Seated) : Type 0 
   pub front : first.known.local.front ≤ now.known.local.front
   pub steps : idle.more ≡ [] → StepsOn first now
 
--- A read of such a caller met just eight refusals beside the queue, before it enters it.
+-- A read of the caller that a call began with met just eight refusals beside the queue, before it enters the queue.
 pub record IsReadRefused {O : Type 0} (r : Running O) (first now : Seated) : Type 0 where
   pub looked : Seated
   pub since : ComesFrom r first looked
@@ -127,7 +127,7 @@ pub record HaltsBesideQueue {O : Type 0} (r : Running O) (before : Seated) (stop
   pub halted : ReadHalted r op before stopped
   pub due : ReadDue 8 before stopped.seat
 
--- The caller was stopped in such a read.
+-- A caller, later in a call, was stopped in a read beside the queue.
 pub record HaltsLater {O : Type 0} (r : Running O) (before : Seated) (stopped : StoppedSeat) : Type 0 where
   pub asked : Seated
   pub since : ComesFrom r before asked
@@ -150,7 +150,7 @@ pub record ShowsRead {O : Type 0} (r : Running O) (table : TableId) (op : List �
   pub read : SeenRead
   pub is : read ≡ record { place = seen.place; op = op; reply = seen.reply; before = length asked.known.local.answered }
   pub from : floor ≤ seen.place
-  pub tells : (view after.pass).told ≡ (view before.pass).told
+  pub tells : (view after.pass).told_calls ≡ (view before.pass).told_calls
   pub shows : (h : SeenRead → ℕ) → total_weight h (view before.pass).shown + h read ≤ total_weight h (view after.pass).shown
 
 -- No cell of the caller is idle that was asked, as it was when it entered the queue, and the client keeps it. The caller is the one that the call began
@@ -231,7 +231,7 @@ MaySettle r lent (UpdatedFull back note) = Unit {0}
 MaySettle r lent (UpdatedWorn back) = Unit {0}
 MaySettle r lent (UpdatedHalted stopped) = Unit {0}
 
--- it was given back
+-- the client's caller was given back to the queue, and what the client keeps is as before
 pub record GivesBack (table : TableId) (before after : Lent) (caller : Seated) : Type 0 where
   pub pass : (after.pass.table_id ≡ table) × (after.pass.me.1 ≡ [])
   pub view_is : view after.pass ≡ with_given (view before.pass) caller
@@ -273,7 +273,7 @@ pub record IsGivenBack {O : Type 0} (r : Running O) (table : TableId) (before af
   pub lent : IsLentTo r table after
   pub back : after.kept ≡ None
   pub limits : limits_of after ≡ limits_of before
-  pub tells : (view after.pass).told ≡ (view before.pass).told
+  pub tells : (view after.pass).told_calls ≡ (view before.pass).told_calls
   pub shows : (h : SeenRead → ℕ) → total_weight h (view before.pass).shown ≤ total_weight h (view after.pass).shown
 
 -- a caller was asked that had seen the place, the one that the client kept or else one out of the queue, and was given back
@@ -284,7 +284,7 @@ pub record SeesPlace {O : Type 0} (r : Running O) (table : TableId) (place : ℕ
   pub returns : ReturnsFirst before after asked now
   pub caught : CatchUpCaught r place asked now
 
--- such a caller found the place in CUR below the one asked for, and was given back
+-- a caller was asked that found the place in CUR below the one asked for, the one that the client kept or else one out of the queue, and was given back
 pub record SeesLess {O : Type 0} (r : Running O) (table : TableId) (place found : ℕ) (before after : Lent) : Type 0 where
   pub given : IsGivenBack r table before after
   pub asked : Seated

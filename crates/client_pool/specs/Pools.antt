@@ -43,7 +43,7 @@ pub record AreCallersPlaced {O : Type 0} (r : Running O) (clients : ℕ) (v : Le
   pub parts : v.parts + clients ≡ all_parts
   pub placed : v.placed ≡ range_with_len 0 r.callers
   pub held : v.held ≡ []
-  pub told : v.told ≡ []
+  pub told_calls : v.told_calls ≡ []
   pub shown : v.shown ≡ []
 
 -- there is room for this many callers and clients
@@ -71,7 +71,7 @@ pub record IsClosing {O : Type 0} (r : Running O) (table : TableId) (clients : �
   pub handed_room : IsRoomFor r.callers closing.handed_room
   pub out : IsRoomFor r.callers closing.out
 
--- the last of clients has it
+-- the last of these clients has what closing their pool takes
 pub record HasLast {O : Type 0} (r : Running O) (table : TableId) (clients : List Client) : Type 0 where
   pub front : List Client
   pub last : Client
@@ -94,10 +94,11 @@ pub record AreNewClients {O : Type 0} (r : Running O) (table : TableId) (limits 
   pub limits_are : All (λ (c : Client). limits_of c.lent ≡ limits) clients
   pub calls : All (λ (c : Client). HasCalls r c []) clients
 
--- what was lent to clients, and what they are beside it
+-- what was lent to each of these clients, in order
 abbrev pub lents_of : List Client → List Lent
 lents_of clients = map (λ (c : Client). c.lent) clients
 
+-- what a client is beside what was lent to it
 abbrev pub former_of : Client → FormerClient
 former_of c = record { number = c.number; floor = c.floor; answers = c.answers }
 
@@ -108,7 +109,7 @@ pub record IsClosed {O : Type 0} (r : Running O) (instance : Instance) (clients 
   pub handed : List Handed
   pub leaves : ClosingWitness r instance (seats_of handed) remains
   pub order : IsLinearizedBy leaves
-  pub told : AreCallsTold r (lents_of clients) handed
+  pub are_told : AreCallsTold r (lents_of clients) handed
   pub answered : (calls : List (List Call)) → AllZip (HasCalls r) clients calls → AreAnswered instance remains.trail.history remains.trail.locals calls
   -- each of these calls is an operation of a caller, which stands in the one order of all
   pub ordered : (calls : List (List Call)) → AllZip (HasCalls r) clients calls → All (All (StandsIn remains.trail.locals order.one_order.order)) calls
@@ -119,5 +120,5 @@ pub record IsClosed {O : Type 0} (r : Running O) (instance : Instance) (clients 
 pub record IsLeftOpen {O : Type 0} (r : Running O) (clients : List Client) (kept : PoolKept O) : Type 0 where
   pub service : kept.service ≡ r
   pub seats : AreSeats r (seats_of kept.callers.items)
-  pub told : AreCallsTold r (lents_of clients) kept.callers.items
+  pub are_told : AreCallsTold r (lents_of clients) kept.callers.items
   pub former : kept.clients.items ≡ map former_of clients

@@ -10,6 +10,6 @@ use Rattle.githoppu_c.specs.Recoveries.{IsRefusal}
 
 pub taken : (is : List ℕ → Type 0) (takes : Base → Type 0) (faulty : WordsFault → Type 0) (base : Base) (answer : Result Base ℤ) → takes base → faulty (Image Memory)
     → MatchResult answer (IsSameWith is base) (IsNoneWith is base) → MatchResult answer (IsBaseWith is takes) (IsRefusal (IsFaultOr is takes faulty))
-taken is takes faulty base (Ok same) took memory told = subst (IsBaseWith is takes) (sym told.0) (took, told.1)
-taken is takes faulty base (Err code) took memory (inl told) = (Image Body, inr (refl, (base, took, told.1)), told.0)
-taken is takes faulty base (Err code) took memory (inr told) = (Image Memory, inl memory, told)
+taken is takes faulty base (Ok same) took memory is_same = subst (IsBaseWith is takes) (sym is_same.0) (took, is_same.1)
+taken is takes faulty base (Err code) took memory (inl not_kept) = (Image Body, inr (refl, (base, took, not_kept.1)), not_kept.0)
+taken is takes faulty base (Err code) took memory (inr no_memory) = (Image Memory, inl memory, no_memory)

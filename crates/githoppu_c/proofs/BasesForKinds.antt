@@ -9,5 +9,5 @@ use Rattle.githoppu_c.specs.Recoveries.{IsRefusal}
 
 pub base_for_kind : (words : List ℕ) (taken : Base → Type 0) (faulty : WordsFault → Type 0) (answer : Result Base ℤ) → IsHeaded words → ((b : Base) → taken b → IsBaseOfKind (object_kind_in words) words b)
     → ((f : WordsFault) → faulty f → IsFaultOfKind (object_kind_in words) words f) → MatchResult answer taken (IsRefusal faulty) → MatchResult answer (IsBaseIn words) (RefusesBase words)
-base_for_kind words taken faulty (Ok base) headed goes fails told = (headed, goes base told)
-base_for_kind words taken faulty (Err code) headed goes fails told = (told.0, inr (headed, fails told.0 told.1), told.2)
+base_for_kind words taken faulty (Ok base) headed goes fails is_taken = (headed, goes base is_taken)
+base_for_kind words taken faulty (Err code) headed goes fails refused = (refused.0, inr (headed, fails refused.0 refused.1), refused.2)

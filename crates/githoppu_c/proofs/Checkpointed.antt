@@ -27,17 +27,17 @@ module _ {O : Type 0} (o : Ghosts O) (words : List ℕ) (tries place : ℕ) wher
   is_base r = LawfulBase r.lines (o.lawful r.object) (record { place = place; words = words })
 
   base_from : (r : Running O) (before after : Handed) → TakesFrom o r words tries before (At place) after → is_base r
-  base_from r (Idle u) (Idle v) told = told.0.base
-  base_from r (Idle u) (Linked v) told = absurd told
-  base_from r (Idle u) (Stopped v) told = absurd told
-  base_from r (Linked u) after told = absurd (in_turn place told.0)
-  base_from r (Stopped u) after told = absurd (in_turn place told.0)
+  base_from r (Idle u) (Idle v) takes = takes.0.base
+  base_from r (Idle u) (Linked v) takes = absurd takes
+  base_from r (Idle u) (Stopped v) takes = absurd takes
+  base_from r (Linked u) after takes = absurd (in_turn place takes.0)
+  base_from r (Stopped u) after takes = absurd (in_turn place takes.0)
 
   pub taken_base : (before after : Session O) → IsSessionOpen before → IsSessionOpen after → TakesIn o words tries before (At place) after → is_base (arc_value before.service)
-  taken_base before after ready then takes =
+  taken_base before after opened then takes =
       let r = arc_value before.service in
-      let told = subst (λ (x : Option Handed). IfSome x (λ b. IfSome after.handed (λ a. TakesFrom o r words tries b (At place) a))) ready.is takes.told in
-      base_from r ready.handed then.handed (subst (λ (x : Option Handed). IfSome x (λ a. TakesFrom o r words tries ready.handed (At place) a)) then.is told)
+      let came = subst (λ (x : Option Handed). IfSome x (λ b. IfSome after.handed (λ a. TakesFrom o r words tries b (At place) a))) opened.is takes.came in
+      base_from r opened.handed then.handed (subst (λ (x : Option Handed). IfSome x (λ a. TakesFrom o r words tries opened.handed (At place) a)) then.is came)
 
 -- the part of words behind the first 8, where it was put there
 part_there : (before part post : List ℕ) (n : ℕ) → 8 ≤ length before → length part ≡ n → take n (drop 8 (take 8 before ++ (part ++ post))) ≡ part
@@ -55,10 +55,10 @@ written_of kind callers lines place rc rl n before part post words c l long size
 
 -- ---- where an image was taken, its region is in the words
 
-module _ {O : Type 0} (o : Ghosts O) (kind : ℕ) (before after : Session O) (words : List ℕ) (ready : IsSessionOpen before) (then : IsSessionOpen after) where
+module _ {O : Type 0} (o : Ghosts O) (kind : ℕ) (before after : Session O) (words : List ℕ) (opened : IsSessionOpen before) (then : IsSessionOpen after) where
   of_taken : (region : List ℕ) (taken : SessionCheckpoint) → TakesIn o region 16 before taken after → IsWrittenAs kind (arc_value before.service) region taken words → pos 0 ≡ taken_code taken
       → IsRegionIn o kind (arc_value before.service) words
-  of_taken region (At place) takes written done = record { place = place; region = region; base = taken_base o region 16 place before after ready then takes; written = written }
+  of_taken region (At place) takes written done = record { place = place; region = region; base = taken_base o region 16 place before after opened then takes; written = written }
   of_taken region Again takes written done = absurd cc
   of_taken region TakenStopped takes written done = absurd cc
   of_taken region OutOfTurn takes written done = absurd cc

@@ -42,7 +42,7 @@ module _ {S : Type 0} (any : S → AnyHandleState) (from : S → Type 0) (to : A
 -- boxes of sessions of one service, which C may call
 pub as_boxes : {O : Type 0} (any : Session O → AnyHandleState) (r : Running O) (count : ℕ) (callable : (s : Session O) → IsOpenSessionOf r s → IsCallable (any s)) (boxes : List Boxed) (sessions : List (Session O))
     → map value_of boxes ≡ map any sessions → length sessions ≡ count → All (IsOpenSessionOf r) sessions → AreBoxes (IsSessionIn any r) count boxes
-as_boxes any r count callable boxes sessions same many ready = record {
+as_boxes any r count callable boxes sessions same many opened = record {
   all = sym (length-map boxes value_of) ∙ ap length same ∙ length-map sessions any ∙ many;
-  each = each_box any (IsOpenSessionOf r) (λ content. IsSessionIn any r content × IsCallable content) (λ s of. (record { session = s; of = of; is = refl }, callable s of)) boxes sessions same ready;
+  each = each_box any (IsOpenSessionOf r) (λ content. IsSessionIn any r content × IsCallable content) (λ s of. (record { session = s; of = of; is = refl }, callable s of)) boxes sessions same opened;
 }

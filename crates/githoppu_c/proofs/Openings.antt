@@ -50,18 +50,18 @@ module _ {O : Type 0} (any : Session O → AnyHandleState) (replies : ReplyKind)
   recovered_boxes items kind taken faulty words goes few (Ok v) made = are_recovered taken goes few (items v) made
   recovered_boxes items kind taken faulty words goes few (Err code) is = inr (few, inr (inl is))
 
--- the same refusal, where two kinds of replies are one
+-- a refusal by one kind of replies is one by an equal kind
 pub kind_refused : {O : Type 0} (o : Ghosts O) (object : O) (words : List ℕ) (a b : ReplyKind) (code : ℤ) → a ≡ b → IsRefusal (IsObjectFault o a object words) code → IsRefusal (IsObjectFault o b object words) code
-kind_refused o object words a b code same told = subst (λ k. IsRefusal (IsObjectFault o k object words) code) same told
+kind_refused o object words a b code same refused = subst (λ k. IsRefusal (IsObjectFault o k object words) code) same refused
 
 -- the number of why sessions are not opened whose sizes are right
 pub opening_code : (fault : OpenFault) (code : ℤ) → code ≡ open_code fault → IsOpenCode code
 opening_code (Start fault) code is = inl is
 opening_code InTheWay code is = inr is
 
--- what is ready may be called
-pub ready_callable : {O : Type 0} (o : Ghosts O) (replies : ReplyKind) (r : Running O) (s : Session O) → KeepsReplies replies r → IsOpenSessionOf r s → IsContentCallable o replies (ContentSession s)
-ready_callable o replies r s keeps of = (of.ready, subst (KeepsReplies replies) (sym of.same) keeps)
+-- an open session may be called, where its service keeps replies
+pub open_callable : {O : Type 0} (o : Ghosts O) (replies : ReplyKind) (r : Running O) (s : Session O) → KeepsReplies replies r → IsOpenSessionOf r s → IsContentCallable o replies (ContentSession s)
+open_callable o replies r s keeps of = (of.opened, subst (KeepsReplies replies) (sym of.same) keeps)
 
 -- why sessions were not recovered from words with a head
 pub refused_sessions : (kind : ℕ) (faulty refused : WordsFault → Type 0) (words : List ℕ) (count : ℕ) (code : ℤ) → AreFew count → ((fault : WordsFault) → refused fault → faulty fault)

@@ -44,7 +44,7 @@ leaves_of r object instance seats left l = record {
 }
 
 module _ (before : Option ℕ) (r : Running ProgramObject) (other : is_other before r.object.version ≡ true) where
-  -- the same program, which takes over this one's images
+  -- a service of the same program's object, which takes over the images of this other program
   abbrev pub with_before : Running ProgramObject
   with_before =
       let o = r.object in

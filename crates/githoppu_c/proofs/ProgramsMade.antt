@@ -17,7 +17,7 @@ use Rattle.githoppu_c.specs.Objects.{IsObjectFault, IsObjectIn}
 use Rattle.githoppu_c.specs.Programs.{AreProgramsOpened, AreProgramsRecovered, IsFaultByProgram, IsFuel, IsObjectOf, IsProgram, IsTakenByProgram, RecoversProgram, RefusesProgramOpening, RefusesProgramRecovery, before_of}
 use Rattle.githoppu_c.specs.Recoveries.{AreFew, IsRefusal}
 use Rattle.githoppu_c.proofs.InBoxes.{Boxed, value_of}
-use Rattle.githoppu_c.proofs.Openings.{are_opened, are_recovered, ready_callable, refused_sessions}
+use Rattle.githoppu_c.proofs.Openings.{are_opened, are_recovered, open_callable, refused_sessions}
 use Rattle.githoppu_c.proofs.SameLines.{program_base, program_fault}
 
 -- the numbers of an object that may be opened or recovered fit
@@ -29,7 +29,7 @@ pub program_boxes : {V : Type 0} (items : V → List Boxed) (words : List ℕ) (
     → MatchResult answer (λ v. map value_of (items v) ≡ map program_session sessions) (λ code. code ≡ pos 8)
     → MatchResult answer (λ v. AreProgramsOpened words instructions fuel lines count (items v)) (RefusesProgramOpening words instructions fuel lines count)
 program_boxes items words instructions fuel lines count base may small o is sessions of (Ok v) made = record {
-  opened = are_opened program_session ProgramReplies (ready_callable program_ghosts ProgramReplies) o o.lines count base (λ b said caller few some. inr tt) sessions of lines is.lines_are may (items v) made;
+  opened = are_opened program_session ProgramReplies (open_callable program_ghosts ProgramReplies) o o.lines count base (λ b said caller few some. inr tt) sessions of lines is.lines_are may (items v) made;
   fuel_fits = small;
   object = subst (IsObjectOf words instructions fuel lines None) (sym of.object_is) is;
 }
@@ -57,7 +57,7 @@ module _ (words : List ℕ) (instructions fuel before : ℕ) (image : List ℕ) 
       → MatchResult answer (λ v. AreProgramsRecovered words instructions fuel before image count (items v)) (RefusesProgramRecovery words instructions fuel before image count)
   recovered_program items sessions of (Ok v) made = record {
     is = program_is;
-    recovered = are_recovered program_session ProgramReplies (ready_callable program_ghosts ProgramReplies) o o.lines count (IsObjectIn program_ghosts ProgramReplies o image) (λ b said. said.1) sessions of
+    recovered = are_recovered program_session ProgramReplies (open_callable program_ghosts ProgramReplies) o o.lines count (IsObjectIn program_ghosts ProgramReplies o image) (λ b said. said.1) sessions of
         (IsTakenByProgram (instructions_of o.program) words instructions fuel before image)
         (program_base image words fuel (fingerprint words instructions fuel) (before_of before (fingerprint words instructions fuel)) o is.lines_are is.words_are is.fuel_is is.version_is is.before_is) few (items v) made;
     fuel_fits = small;

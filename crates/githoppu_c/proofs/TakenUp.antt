@@ -214,9 +214,9 @@ module _ (choice : ℕ) (words : List ℕ) where
         closed = closed;
         again = λ before other. program_again words table.object.lines left.of.lines_are (IsKeptOfClosed program_ghosts table closed.seats r choice) table.object.version (old_in_lines table.object before)
             (left.of.headed, left.of.kind_is)
-            (λ answer told. kept_with before table other closed.seats r choice (λ fault. fault ≡ Image Memory) answer
+            (λ answer is_read. kept_with before table other closed.seats r choice (λ fault. fault ≡ Image Memory) answer
             (law (with_before before table other) closed.seats r answer (opened_with before table other closed.is.opened)
-            (leaves_of table (with_before before table other).object (instance_at table program_ghosts.step program_ghosts.only_reads) closed.seats r closed.is.leaves) left.written told));
+            (leaves_of table (with_before before table other).object (instance_at table program_ghosts.step program_ghosts.only_reads) closed.seats r closed.is.leaves) left.written is_read));
       }
 
   module _ (code : ℤ) where

@@ -58,16 +58,19 @@ pub record IsAgain {O : Type 0} (o : Ghosts O) (kind : ℕ) (taken : Running O �
   pub closed : IsClosedOf o.line_count o.lawful o.step o.only_reads table r
   pub again : IsTakenUpAgain kind (taken table) (faulty table) (IsKeptOfClosed o table closed.seats r choice) words
 
--- of a store, of a queue, and of a program's object
+-- the image by choice of a closed service of a store is taken up again
 abbrev pub IsStoreAgain : Remains → ℕ → List ℕ → Type 0
 IsStoreAgain r choice words = IsAgain store_ghosts 1 (λ _. IsStoreIn words) (λ _. IsStoreFault words) r choice words
 
+-- the image by choice of a closed service of a queue is taken up again
 abbrev pub IsQueueAgain : Remains → ℕ → List ℕ → Type 0
 IsQueueAgain r choice words = IsAgain queue_ghosts 2 (λ _. IsQueueIn words) (λ _. IsQueueFault words) r choice words
 
+-- the base that words say for the program of a service's object, where it takes over the images of the program with another fingerprint, or none
 abbrev pub is_program_in : List ℕ → Running ProgramObject → Option ℕ → Base → Type 0
 is_program_in words table before = IsProgramIn table.object.version (old_in_lines table.object before) words
 
+-- why words say no base for the program of a service's object, where it takes over the images of the program with another fingerprint, or none
 abbrev pub is_program_fault : List ℕ → Running ProgramObject → Option ℕ → WordsFault → Type 0
 is_program_fault words table before = IsProgramFault table.object.version (old_in_lines table.object before) words
 
@@ -77,6 +80,7 @@ IsAgainWithAny kept words table =
     (before : Option ℕ) → is_other before table.object.version ≡ true
     → IsRecoveredAgain 3 (is_program_in words table before) (is_program_fault words table before) kept words
 
+-- the image by choice of a closed service of a program's object is taken up again, whichever other program's images the program takes over
 pub record IsProgramAgain (r : Remains) (choice : ℕ) (words : List ℕ) : Type 0 where
   pub table : Running ProgramObject
   pub closed : IsClosedOf program_ghosts.line_count program_ghosts.lawful program_ghosts.step program_ghosts.only_reads table r
@@ -96,20 +100,22 @@ pub record IsRegionIn {O : Type 0} (o : Ghosts O) (kind : ℕ) (r : Running O) (
   pub base : LawfulBase r.lines (o.lawful r.object) (base_at place region)
   pub written : IsWrittenOf kind r.callers r.lines place region words
 
--- They are taken up again as that base where each result in it that has a number keeps a reply. Recovery looks at that too, and of a running service it is
--- known once it is closed.
+-- Words of an image that a session took are taken up again as the base that it took, where each result in it that has a number keeps a reply. Recovery looks at
+-- that too, and of a running service it is known once it is closed.
 pub record IsRegionAgain {O : Type 0} (o : Ghosts O) (kind : ℕ) (is : List ℕ → Type 0) (taken : Base → Type 0) (faulty : WordsFault → Type 0)
     (r : Running O) (words : List ℕ) : Type 0 where
   pub has : IsRegionIn o kind r words
   pub again : HoldsReplies is has.region → IsTakenUpAgain kind taken faulty (λ base. base ≡ base_at has.place has.region) words
 
--- of a running store, of a running queue, and of a program's object
+-- the image that a session took of a running store is taken up again
 abbrev pub IsTakenStoreAgain : Running DocStore → List ℕ → Type 0
 IsTakenStoreAgain r words = IsRegionAgain store_ghosts 1 IsDocumentReply (IsStoreIn words) (IsStoreFault words) r words
 
+-- the image that a session took of a running queue is taken up again
 abbrev pub IsTakenQueueAgain : Running Fifo → List ℕ → Type 0
 IsTakenQueueAgain r words = IsRegionAgain queue_ghosts 2 IsQueueReply (IsQueueIn words) (IsQueueFault words) r words
 
+-- the image that a session took of the object of a running program is taken up again, whichever other program's images the program takes over
 pub record IsTakenProgramAgain (r : Running ProgramObject) (words : List ℕ) : Type 0 where
   pub has : IsRegionIn program_ghosts 3 r words
   pub again : IsAgainWithAny (λ base. base ≡ base_at has.place has.region) words r
@@ -146,17 +152,19 @@ pub record IsLeftImage {O : Type 0} (o : Ghosts O) (kind : ℕ) (replies : Reply
   pub goes_on : (base : Base) → IsTakenUp (o.version_number table.object) (o.lawful table.object) (o.old_format table.object) words base
       → RepliesGoOn (IsReplyOfKind replies) (o.lawful table.object) (o.step table.object) table.base.words base.words
 
+-- where an image by choice of a closed service was written, it is taken up
 abbrev pub ContentComesBack : {O : Type 0} → Ghosts O → ℕ → ReplyKind → ℕ → List ℕ → ℤ → HandleState O → Type 0
 ContentComesBack o kind replies choice words code (Closed r) = code ≡ pos 0 → IsLeftImage o kind replies choice words r
 ContentComesBack o kind replies choice words code content = Unit {0}
 
--- and so is the one that a session took of a running one
+-- the image that a session took of a running service is taken up as the base that it took
 pub record IsTakenImage {O : Type 0} (o : Ghosts O) (kind : ℕ) (words : List ℕ) (r : Running O) : Type 0 where
   pub running : IsTableWithinLimits o.line_count o.lawful r
   pub has : IsRegionIn o kind r words
   pub of : IsOfKind kind (o.line_count r.object) words
   pub up : IsAnsweredBy o r.object words (λ base. base ≡ base_at has.place has.region)
 
+-- where a session took an image, it is taken up
 abbrev pub ContentTakenBack : {O : Type 0} → Ghosts O → ℕ → List ℕ → ℤ → HandleState O → Type 0
 ContentTakenBack o kind words code (Session session) = code ≡ pos 0 → IsTakenImage o kind words (arc_value session.service)
 ContentTakenBack o kind words code content = Unit {0}

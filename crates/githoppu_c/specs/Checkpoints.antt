@@ -43,7 +43,7 @@ pub record TookImage {O : Type 0} (o : Ghosts O) (kind : ℕ) (before after : Se
 
 -- a session took an image where there are as many words as it takes, which is the number that is told; else nothing is changed
 pub record TakesAs {O : Type 0} (o : Ghosts O) (kind : ℕ) (before after : Session O) (words_before words : List ℕ) (needed : ℕ) (code : ℤ) : Type 0 where
-  pub told : needed ≡ checkpoint_words (arc_value before.service)
+  pub needed_is : needed ≡ checkpoint_words (arc_value before.service)
   pub took : ((length words_before ≡ checkpoint_words (arc_value before.service)) × TookImage o kind before after words code)
       ⊎ ((length words_before ≢ checkpoint_words (arc_value before.service)) × (code ≡ pos 7) × (words ≡ words_before) × (after ≡ before))
 
@@ -54,6 +54,7 @@ ContentCheckpoints o kind words_before words needed code (ContentSession before)
 ContentCheckpoints o kind words_before words needed code (ContentSession before) after = ⊥
 ContentCheckpoints o kind words_before words needed code before after = (after ≡ before) × (words ≡ words_before) × (needed ≡ 0) × (code ≡ pos 6)
 
+-- a session of any of the three objects took an image so, or was called out of turn
 abbrev pub CheckpointsSession : AnyHandleState → AnyHandleState → List ℕ → List ℕ → ℕ → ℤ → Type 0
 CheckpointsSession before after words_before words needed code =
     OfBoth (ContentCheckpoints store_ghosts 1 words_before words needed code) (ContentCheckpoints queue_ghosts 2 words_before words needed code)

@@ -44,6 +44,7 @@ ContentCloses {O = O} o code (Unclosed rest) after =
     × (after ≡ content_left closing) × (code ≡ closing_code closing)
 ContentCloses o code before after = (after ≡ before) × (code ≡ pos 6)
 
+-- what C has of any of the three objects was closed so
 abbrev pub ClosesAs : AnyHandleState → AnyHandleState → ℤ → Type 0
 ClosesAs before after code = OfBoth (ContentCloses store_ghosts code) (ContentCloses queue_ghosts code) (ContentCloses program_ghosts code) before after
 
@@ -53,7 +54,7 @@ remains_words r = image_size r.callers r.lines + 8
 
 -- what a closed service left, by choice: written where there are as many words as it takes, which is the number that is told; else nothing is written
 pub record WritesRemains (kind : ℕ) (r : Remains) (choice : ℕ) (before after : List ℕ) (needed : ℕ) (code : ℤ) : Type 0 where
-  pub told : needed ≡ remains_words r
+  pub needed_is : needed ≡ remains_words r
   pub written : ((length before ≡ remains_words r) × (code ≡ pos 0) × AreRemainsWritten kind r choice after)
       ⊎ ((length before ≢ remains_words r) × (code ≡ pos 7) × (after ≡ before))
 
@@ -62,6 +63,7 @@ abbrev pub ContentImages : {O : Type 0} → ℕ → ℕ → List ℕ → List �
 ContentImages kind choice before after needed code (Closed r) = WritesRemains kind r choice before after needed code
 ContentImages kind choice before after needed code content = (after ≡ before) × (needed ≡ 0) × (code ≡ pos 6)
 
+-- the image of what is closed, of any of the three objects; what is not closed has none
 abbrev pub Images : AnyHandleState → ℕ → List ℕ → List ℕ → ℕ → ℤ → Type 0
 Images content choice before after needed code =
     OfAny (ContentImages 1 choice before after needed code) (ContentImages 2 choice before after needed code)

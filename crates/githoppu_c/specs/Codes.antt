@@ -35,10 +35,11 @@ abbrev pub open_code : OpenFault → ℤ
 open_code (Start fault) = pos 8
 open_code InTheWay = pos 2
 
+-- one of the numbers of why no sessions are opened whose sizes are right: memory ran out, or the sessions' new queue did not take its first entry
 abbrev pub IsOpenCode : ℤ → Type 0
 IsOpenCode code = (code ≡ pos 8) ⊎ (code ≡ pos 2)
 
--- the number of why nothing is recovered
+-- the number of why recovery refuses an image, or that memory ran out
 abbrev pub image_code : ImageFault → ℤ
 image_code Memory = pos 8
 image_code (Size found) = pos 15
@@ -47,6 +48,8 @@ image_code (Version found) = pos 17
 image_code (Place root region) = pos 18
 image_code Body = pos 19
 
+-- the number of why nothing is taken up from words: their head or their kind is wrong, recovery refuses the image, or a result has a number above the image's
+-- place
 abbrev pub fault_code : WordsFault → ℤ
 fault_code Head = pos 13
 fault_code (Kind found) = pos 14

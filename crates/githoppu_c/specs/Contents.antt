@@ -48,7 +48,7 @@ OfBoth documents queue program before after = ⊥
 abbrev pub KeepsReplies : {O : Type 0} → ReplyKind → Running O → Type 0
 KeepsReplies replies r = HoldsReplies (IsReplyOfKind replies) r.base.words
 
--- What C may call: a session that is ready, a service with all its callers that is still to be closed, or with those that the last session found, and what a
+-- What C may call: an open session, a service with all its callers that is still to be closed, or with those that the last session found, and what a
 -- closed one left. The service was opened with results that keep replies.
 abbrev pub IsContentCallable : {O : Type 0} → Ghosts O → ReplyKind → HandleState O → Type 0
 IsContentCallable o replies (Session session) = IsSessionOpen session × KeepsReplies replies (arc_value session.service)
@@ -57,26 +57,29 @@ IsContentCallable {O = O} o replies (Unclosed rest) = (r : Running O) × (given 
 IsContentCallable {O = O} o replies (Closed remains) = (r : Running O) × IsClosedOf o.line_count o.lawful o.step o.only_reads r remains × KeepsReplies replies r
 IsContentCallable o replies Gone = Unit {0}
 
+-- what C may call, of any of the three objects
 abbrev pub IsCallable : AnyHandleState → Type 0
 IsCallable = OfAny (IsContentCallable store_ghosts Document) (IsContentCallable queue_ghosts QueueReplies) (IsContentCallable program_ghosts ProgramReplies)
 
--- a call leaves what C may call, and this was done
+-- a call leaves a content of this object that C may call, and this was done
 pub record LeavesContentCallable {O : Type 0} (o : Ghosts O) (replies : ReplyKind) (after : HandleState O) (Done : Type 0) : Type 0 where
   pub callable : IsContentCallable o replies after
   pub done : Done
 
--- the same of a content of any object
+-- a call leaves what C may call, of whichever object, and this was done
 pub record LeavesCallable (after : AnyHandleState) (Done : Type 0) : Type 0 where
   pub callable : IsCallable after
   pub done : Done
 
--- a session of a store, of a queue, or of a program's object, as C has it
+-- a session of a store, as C has it
 abbrev pub store_session : SessionOf DocStore → AnyHandleState
 store_session session = Documents (Session session)
 
+-- a session of a queue, as C has it
 abbrev pub queue_session : SessionOf Fifo → AnyHandleState
 queue_session session = Queue (Session session)
 
+-- a session of a program's object, as C has it
 abbrev pub program_session : SessionOf ProgramObject → AnyHandleState
 program_session session = Program (Session session)
 
@@ -112,7 +115,7 @@ pub record MayOpen (lines count : ℕ) : Type 0 where
 abbrev pub Refuses : ℕ → ℕ → ℤ → Type 0
 Refuses lines count code = ((¬ MayOpen lines count) × (code ≡ pos 7)) ⊎ (MayOpen lines count × IsOpenCode code)
 
--- what C is answered
+-- what C is answered where it opens sessions
 abbrev pub AnswersOpening : ℕ → ℕ → ℤ → Type 0
 AnswersOpening lines count code = (MayOpen lines count × (code ≡ pos 0)) ⊎ Refuses lines count code
 
@@ -134,6 +137,7 @@ ContentCalls o op tries called reply (Session before) (Session after) = CallsIn 
 ContentCalls o op tries called reply (Session before) after = ⊥
 ContentCalls o op tries called reply before after = IsNoTurn before called after
 
+-- a call of this operation, in this many tries, had this result, by a session of any of the three objects or by what is no session
 abbrev pub CallHasResult : List ℕ → ℕ → AnyHandleState → Called → AnyHandleState → List ℕ → Type 0
 CallHasResult op tries before called after reply =
     OfBoth (ContentCalls store_ghosts op tries called reply) (ContentCalls queue_ghosts op tries called reply)
@@ -145,6 +149,7 @@ ContentFinishes tries called reply (Session before) (Session after) = FinishesIn
 ContentFinishes tries called reply (Session before) after = ⊥
 ContentFinishes tries called reply before after = IsNoTurn before called after
 
+-- finishing the linked entry, in this many attempts, had this result, by a session of any of the three objects or by what is no session
 abbrev pub FinishesSession : ℕ → AnyHandleState → Called → AnyHandleState → List ℕ → Type 0
 FinishesSession tries before called after reply =
     OfBoth (ContentFinishes tries called reply) (ContentFinishes tries called reply) (ContentFinishes tries called reply) before after

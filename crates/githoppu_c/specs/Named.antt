@@ -9,5 +9,6 @@ use Rattle.cx_base.specs.Memory.{Words}
 abbrev pub idle_step : List ℕ → List ℕ → List ℕ × List ℕ
 idle_step image op = (image, replicate 144 0)
 
+-- 144 zeros are the words of a reply
 pub zeros_are_words : Words 144 (replicate 144 0)
 zeros_are_words = record { long = length-replicate {A = ℕ} 144 0; fit = All-replicate (λ x. x < 2 ^ 64) 144 0 (lit< tt) }

@@ -23,33 +23,38 @@ IsBaseWith is taken base = taken base × HoldsReplies is base.words
 abbrev pub IsFaultOr : (List ℕ → Type 0) → (Base → Type 0) → (WordsFault → Type 0) → WordsFault → Type 0
 IsFaultOr is taken faulty fault = faulty fault ⊎ ((fault ≡ Image Body) × ((base : Base) × taken base × (¬ HoldsReplies is base.words)))
 
--- the base, in which each result with a number keeps a reply of this kind; and the number of why it is not given: one does not, or memory ran out
+-- the base itself is given, in which each result with a number keeps a reply of this kind
 abbrev pub IsSameWith : (List ℕ → Type 0) → Base → Base → Type 0
 IsSameWith is base same = (same ≡ base) × HoldsReplies is base.words
 
+-- the number of why a base is not given: a result in it that has a number keeps no reply of this kind, or memory ran out
 abbrev pub IsNoneWith : (List ℕ → Type 0) → Base → ℤ → Type 0
 IsNoneWith is base code = ((code ≡ pos 19) × (¬ HoldsReplies is base.words)) ⊎ (code ≡ pos 8)
 
--- of a store and of a queue
+-- the base that words say of a document store
 abbrev pub IsStoreIn : List ℕ → Base → Type 0
 IsStoreIn words = IsBaseWith IsDocumentReply (IsTakenUp 2 (IsImageOfStore (lines_in words)) (first_format (lines_in words)) words)
 
+-- why words say no base of a document store
 abbrev pub IsStoreFault : List ℕ → WordsFault → Type 0
 IsStoreFault words =
     IsFaultOr IsDocumentReply (IsTakenUp 2 (IsImageOfStore (lines_in words)) (first_format (lines_in words)) words)
     (IsWordsFault 2 (IsImageOfStore (lines_in words)) (first_format (lines_in words)) words)
 
+-- the base that words say of a queue
 abbrev pub IsQueueIn : List ℕ → Base → Type 0
 IsQueueIn words = IsBaseWith IsQueueReply (IsTakenUp 16 (IsFifo (lines_in words)) no_old_format words)
 
+-- why words say no base of a queue
 abbrev pub IsQueueFault : List ℕ → WordsFault → Type 0
 IsQueueFault words =
     IsFaultOr IsQueueReply (IsTakenUp 16 (IsFifo (lines_in words)) no_old_format words) (IsWordsFault 16 (IsFifo (lines_in words)) no_old_format words)
 
--- and of the object of a program with this fingerprint, which has this old format in each number of lines
+-- the base that words say of the object of a program with this fingerprint, which has this old format in each number of lines
 abbrev pub IsProgramIn : ℕ → (ℕ → OldFormat) → List ℕ → Base → Type 0
 IsProgramIn version old words = IsBaseWith IsProgramReply (IsTakenUp version (IsProgramImage (lines_in words) version) (old (lines_in words)) words)
 
+-- why words say no base of the object of a program with this fingerprint and this old format
 abbrev pub IsProgramFault : ℕ → (ℕ → OldFormat) → List ℕ → WordsFault → Type 0
 IsProgramFault version old words =
     IsFaultOr IsProgramReply (IsTakenUp version (IsProgramImage (lines_in words) version) (old (lines_in words)) words)
@@ -63,6 +68,7 @@ old_in_lines o before lines = old_of (instructions_of o.program) (program_words 
 abbrev pub IsObjectIn : {O : Type 0} → Ghosts O → ReplyKind → O → List ℕ → Base → Type 0
 IsObjectIn o replies object words = IsBaseWith (IsReplyOfKind replies) (IsTakenUp (o.version_number object) (o.lawful object) (o.old_format object) words)
 
+-- why words say no base for an object that may have other lines than they say
 abbrev pub IsObjectFault : {O : Type 0} → Ghosts O → ReplyKind → O → List ℕ → WordsFault → Type 0
 IsObjectFault o replies object words =
     IsFaultOr (IsReplyOfKind replies) (IsTakenUp (o.version_number object) (o.lawful object) (o.old_format object) words)

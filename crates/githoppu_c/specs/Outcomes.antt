@@ -26,19 +26,21 @@ IsBaseOfKind kind words base =
     ((kind ≡ 1) × IsStoreIn words base)
     ⊎ (((kind ≡ 2) × IsQueueIn words base) ⊎ ((kind ≡ 3) × IsProgramIn (fingerprint_in words) (λ _. no_old_format) words base))
 
+-- the base that words say, as one of the kind that their head names
 abbrev pub IsBaseIn : List ℕ → Base → Type 0
 IsBaseIn words base = IsHeaded words × IsBaseOfKind (object_kind_in words) words base
 
--- why there is none: they begin with no head, or are refused as those of their kind
+-- why words say no base of a store, of a queue or of the program that they name, by the kind of their object
 abbrev pub IsFaultOfKind : ℕ → List ℕ → WordsFault → Type 0
 IsFaultOfKind kind words fault =
     ((kind ≡ 1) × IsStoreFault words fault)
     ⊎ (((kind ≡ 2) × IsQueueFault words fault) ⊎ ((kind ≡ 3) × IsProgramFault (fingerprint_in words) (λ _. no_old_format) words fault))
 
+-- why words say no base: they begin with no head, or are refused as those of the kind that it names
 abbrev pub IsBaseFault : List ℕ → WordsFault → Type 0
 IsBaseFault words fault = IsHeadFault (object_kind_in words) words fault ⊎ (IsHeaded words × IsFaultOfKind (object_kind_in words) words fault)
 
--- what this base says of the session
+-- what became of a session's last operation, by the base that words say
 abbrev pub IsOutcomeIn : List ℕ → ℕ → Outcome → Type 0
 IsOutcomeIn words session outcome = (session < 8) × ((base : Base) × IsBaseIn words base × (outcome ≡ outcome_of session base))
 
@@ -48,7 +50,7 @@ RefusesBase words code = (fault : WordsFault) × IsBaseFault words fault × (cod
 
 -- the base that words say, which has a region's words before the object part, or why they say none
 pub record TellsBase (words : List ℕ) (answer : Result Base ℤ) : Type 0 where
-  pub told : MatchResult answer (IsBaseIn words) (RefusesBase words)
+  pub base : MatchResult answer (IsBaseIn words) (RefusesBase words)
   pub long : IfOk answer (λ base. 1168 ≤ length base.words)
 
 -- why nothing is told: there is no such session, or the words are refused

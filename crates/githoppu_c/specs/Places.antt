@@ -20,14 +20,16 @@ abbrev pub ContentTellsPlace : {O : Type 0} → ℕ → ℤ → HandleState O �
 ContentTellsPlace place code (Session session) = (place ≡ session.place) × (code ≡ pos 0)
 ContentTellsPlace place code content = (place ≡ 0) × (code ≡ pos 6)
 
+-- the place of a session of any of the three objects is told, and of what is no session 0, out of turn
 abbrev pub TellsPlace : AnyHandleState → ℕ → ℤ → Type 0
 TellsPlace content place code = OfAny (ContentTellsPlace place code) (ContentTellsPlace place code) (ContentTellsPlace place code) content
 
--- a session that has this place, or there is none
+-- what C has is a session with this place, or is no session
 abbrev pub ContentMayHavePlace : {O : Type 0} → HandleState O → Option ℕ → Type 0
 ContentMayHavePlace content (Some place) = ContentTellsPlace place (pos 0) content
 ContentMayHavePlace content None = ContentTellsPlace 0 (pos 6) content
 
+-- what C has, of any of the three objects, is a session with this place, or is no session
 abbrev pub MayHavePlace : AnyHandleState → Option ℕ → Type 0
 MayHavePlace content (Some place) = TellsPlace content place (pos 0)
 MayHavePlace content None = TellsPlace content 0 (pos 6)
@@ -38,6 +40,7 @@ ContentSees place sight (Session before) (Session after) = SeesIn place before s
 ContentSees place sight (Session before) after = ⊥
 ContentSees place sight before after = (sight ≡ OutOfTurn) × (after ≡ before)
 
+-- catching up with a place had this result, by a session of any of the three objects or by what is no session
 abbrev pub ContentCatchesUp : ℕ → AnyHandleState → SessionCatchUp → AnyHandleState → Type 0
 ContentCatchesUp place before sight after = OfBoth (ContentSees place sight) (ContentSees place sight) (ContentSees place sight) before after
 

@@ -59,13 +59,14 @@ abbrev pub refusal_code : FaultKind → ℤ
 refusal_code fault_kind.Memory = pos 8
 refusal_code kind = pos 25
 
--- the first fault of words: 0 and 0 where there is none, and else its number and that of the instruction. Where memory ran out nothing is told.
+-- the number of the first fault of words, and that of the instruction that has it
 pub record TellsFirstFault (words : List ℕ) (instructions number at : ℕ) : Type 0 where
   pub fault : ProgramFault
   pub first : IsFirstProgramFault words instructions fault
   pub number_is : program_fault_number fault.kind ≡ Some number
   pub at_is : at ≡ fault.at
 
+-- The first fault of words: 0 and 0 where they are a program, and else its number and that of the instruction. Where memory ran out nothing is told.
 abbrev pub TellsFault : List ℕ → ℕ → ℕ → ℕ → ℕ → ℕ → ℤ → Type 0
 TellsFault words instructions number_before number at_before at code =
     (IsProgram words instructions × (number ≡ 0) × (at ≡ 0) × (code ≡ pos 0))
@@ -87,6 +88,7 @@ RefusesProgramOpening words instructions fuel lines count code =
     ((¬ MayOpenProgram fuel lines count) × (code ≡ pos 7))
     ⊎ (MayOpenProgram fuel lines count × (RefusesProgram words instructions code ⊎ (IsProgram words instructions × IsOpenCode code)))
 
+-- what C is answered where it opens sessions of a program's object
 abbrev pub AnswersProgramOpening : List ℕ → ℕ → ℕ → ℕ → ℕ → ℤ → Type 0
 AnswersProgramOpening words instructions fuel lines count code =
     (MayOpenProgram fuel lines count × IsProgram words instructions × (code ≡ pos 0)) ⊎ RefusesProgramOpening words instructions fuel lines count code
@@ -101,12 +103,13 @@ pub record AreProgramsOpened (words : List ℕ) (instructions fuel lines count :
 abbrev pub before_of : ℕ → ℕ → Option ℕ
 before_of before version = if before == 0 || before == version then None else Some before
 
--- what is taken up from an image by this program, which spells these instructions, and why nothing is
+-- what is taken up from an image by this program, which spells these instructions
 abbrev pub IsTakenByProgram : List Instruction → List ℕ → ℕ → ℕ → ℕ → List ℕ → Base → Type 0
 IsTakenByProgram decoded words instructions fuel before image =
     let version = fingerprint words instructions fuel in
     IsProgramIn version (λ lines. old_of decoded words lines fuel version (before_of before version)) image
 
+-- why nothing is taken up from an image by this program, which spells these instructions
 abbrev pub IsFaultByProgram : List Instruction → List ℕ → ℕ → ℕ → ℕ → List ℕ → WordsFault → Type 0
 IsFaultByProgram decoded words instructions fuel before image =
     let version = fingerprint words instructions fuel in
@@ -119,7 +122,7 @@ AfterProgram words instructions fuel count then_ code =
     ((¬ (AreFew count × IsFuel fuel)) × (code ≡ pos 7))
     ⊎ (AreFew count × IsFuel fuel × (RefusesProgram words instructions code ⊎ ((is : IsProgram words instructions) × then_ is.0 code)))
 
--- why nothing is recovered
+-- the number of why nothing is recovered by this program from an image
 abbrev pub RefusesProgramRecovery : List ℕ → ℕ → ℕ → ℕ → List ℕ → ℕ → ℤ → Type 0
 RefusesProgramRecovery words instructions fuel before image count =
     AfterProgram words instructions fuel count (λ decoded. RefusesWords 3 (IsFaultByProgram decoded words instructions fuel before image) image count)
@@ -133,7 +136,7 @@ pub record AreProgramsRecovered (words : List ℕ) (instructions fuel before : �
   pub object : IsObjectOf words instructions fuel (lines_in image) (before_of before (fingerprint words instructions fuel)) recovered.service.object
   pub decoded : instructions_of recovered.service.object.program ≡ is.0
 
--- what C is answered
+-- what C is answered where it recovers sessions of a program's object
 abbrev pub RecoversProgram : List ℕ → ℕ → ℕ → ℕ → List ℕ → ℕ → ℤ → Type 0
 RecoversProgram words instructions fuel before image count =
     AfterProgram words instructions fuel count

@@ -39,6 +39,6 @@ pub record AreRecovered {O : Type 0} (any : Session O → AnyHandleState) (taken
   pub said : taken service.base
   pub of : AreBoxes (IsSessionIn any service) count boxes
 
--- what C is answered
+-- what C is answered where it recovers sessions from words
 abbrev pub Recovers : ℕ → (Base → Type 0) → (WordsFault → Type 0) → List ℕ → ℕ → ℤ → Type 0
 Recovers kind taken faulty words count code = (AreFew count × ((base : Base) × taken base) × (code ≡ pos 0)) ⊎ RefusesWords kind faulty words count code

@@ -19,8 +19,8 @@ pub fn take_to<O: Object>(
     words: &mut [u64],
     needed: &mut u64,
 ) -> i32
-    requires ready { IsSessionOpen session.old }
-    ensures ready { IsSessionOpen session.new }
+    requires opened { IsSessionOpen session.old }
+    ensures opened { IsSessionOpen session.new }
     ensures same { arc_value session.new.service ≡ arc_value session.old.service }
     ensures running { IsTableWithinLimits O.line_count O.lawful (arc_value session.old.service) }
     ensures takes { TakesAs O.Object kind session.old session.new words.old words.new needed.new result }

@@ -375,9 +375,9 @@ pub extern "C" fn githoppu_place_of(session: Handle, place: &mut u64, out: &mut 
     ensures { TellsPlace session.content place.new result }
 {
     let content = session.into_box();
-    let told = content.place();
+    let seen_place = content.place();
     *out = Box::into_raw(content) as *mut u8;
-    match told {
+    match seen_place {
         Some(seen) => {
             *place = seen;
             DONE

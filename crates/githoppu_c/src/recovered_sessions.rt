@@ -94,7 +94,7 @@ pub(crate) fn base_in<O: Object>(
 ) -> Result<Base, i32>
     requires head { IsSaid words.now head }
     requires lines { head.lines ≡ O.line_count object.now }
-    ensures told { MatchResult result (IsObjectIn O.Object kind object.now words.now) (IsRefusal (IsObjectFault O.Object kind object.now words.now)) }
+    ensures base { MatchResult result (IsObjectIn O.Object kind object.now words.now) (IsRefusal (IsObjectFault O.Object kind object.now words.now)) }
     ensures lawful { IfOk result (LawfulBase (O.line_count object.now) (O.lawful object.now)) }
 {
     match base_of(alloc, object, words, head) {

@@ -1,4 +1,4 @@
-//! Words that are made a program, run, and told by a digest.
+//! Words that are made a program and run, and a digest of what came of it.
 
 ghost use Rattle.std.specs.Prelude.{◌≡◌, ◌*◌, IfOk, length};
 ghost use Rattle.cx_base.specs.Memory.{Always, Known};
@@ -25,7 +25,7 @@ impl Tally {
     }
 
     /// One word more.
-    fn told(&mut self, word: u64) {
+    fn add(&mut self, word: u64) {
         let product = (self.digest ^ word).wrapping_mul(0x9E37_79B9_7F4A_7C15);
         self.digest = product ^ (product >> 29);
     }
@@ -98,7 +98,7 @@ pub fn upgraded(alloc: Global, row: usize) -> Tally {
     let mut tally = Tally::none();
     if row < UPGRADES.len() {
         if take_over(alloc, &UPGRADES[row], &mut tally).is_err() {
-            tally.told(u64::MAX);
+            tally.add(u64::MAX);
         }
     }
     tally
@@ -133,14 +133,14 @@ fn run(alloc: Global, words: &[u64], instructions: usize, operations: &[u64], ta
         Ok(program) => {
             if let Some(object) = ProgramObject::of(program, 4, 2_000, None) {
                 if run_all(alloc, &object, operations, tally).is_err() {
-                    tally.told(u64::MAX);
+                    tally.add(u64::MAX);
                 }
             }
         }
         Err(ProgramFault { kind, at }) => {
             tally.refused = tally.refused.wrapping_add(1);
-            tally.told(number_of(kind));
-            tally.told(at);
+            tally.add(number_of(kind));
+            tally.add(at);
         }
     }
 }
@@ -214,7 +214,7 @@ fn stepped<O: Object>(
             Ok(words)
         }
         Err(Halt) => {
-            tally.told(u64::MAX);
+            tally.add(u64::MAX);
             Ok(memory.into_words())
         }
     }
@@ -222,7 +222,7 @@ fn stepped<O: Object>(
 
 fn tell(words: &[u64], tally: &mut Tally) {
     for word in words {
-        tally.told(*word);
+        tally.add(*word);
     }
 }
 

@@ -46,7 +46,7 @@ module _ {O : Type 0} (r : Running O) (table : TableId) where
     }
 
     pub asked_since : (op reply : List ℕ) (asked : CallOutcome) → ClientRequestEnds r table op reply b c asked → ClientRequestEnds r table op reply a c asked
-    asked_since op reply (Done ticket) u = record { told = u.told; is = u.is; made = made_since _ u.made }
+    asked_since op reply (Done ticket) u = record { call = u.call; is = u.is; made = made_since _ u.made }
     asked_since op reply (Read place) u = record { read = u.read; is = u.is; made = made_since _ u.made }
     asked_since op reply Worn u = (again u.0, u.1)
 

@@ -107,8 +107,8 @@ module _ {O Op Reply Store : Type 0} (m : Meaning Op Reply Store) (life : Life O
     (op : Op) (ws : List ℕ) (are : ws ≡ m.encoding.op_words op) (named : named_op life client number ≡ Some op) (limits : m.is_op op) (value : m.is_op_value op) where
   pub entry_made : (answer : Answer) → HasUpdated r table ws before after answer → NotesEntryLine m client number answer old new → IsAtWork m life r table clients client number after new
   entry_made answer u notes = record {
-    who = calling_on r table clients client before after w.who (may_again r table before after w.who.may (Entry u.told) u.made) u.made.same (w.who.calls ++ Entry u.told ∷ []) (u.made.calls w.who.calls w.who.has);
-    made = makes_entry m life client n number w.who.calls old.entries.items old.reads.items w.made next op ws are named u.told answer notes.reply new.entries.items new.reads.items u.is.0 u.is.1 u.is.2 notes.words notes.entries_are notes.reads_are;
+    who = calling_on r table clients client before after w.who (may_again r table before after w.who.may (Entry u.call) u.made) u.made.same (w.who.calls ++ Entry u.call ∷ []) (u.made.calls w.who.calls w.who.has);
+    made = makes_entry m life client n number w.who.calls old.entries.items old.reads.items w.made next op ws are named u.call answer notes.reply new.entries.items new.reads.items u.is.0 u.is.1 u.is.2 notes.words notes.entries_are notes.reads_are;
   }
 
   pub read_made : (seen : Seen) → HasRead r table ws before after seen → NotesRead m client number seen old new → IsAtWork m life r table clients client number after new
@@ -122,12 +122,12 @@ module _ {O Op Reply Store : Type 0} (m : Meaning Op Reply Store) (life : Life O
 
   pub entry_bad : (answer : Answer) → HasUpdated r table ws before after answer → AreOfNoReply m answer.reply → IsOver m life r table clients client after
   entry_bad answer u bad = record {
-    who = calling_on r table clients client before after w.who (may_again r table before after w.who.may (Entry u.told) u.made) u.made.same (w.who.calls ++ Entry u.told ∷ []) (u.made.calls w.who.calls w.who.has);
-    few = omega (arith, fewer_before, ap length (entries_more w.who.calls u.told), length-append (entries_called w.who.calls) (u.told ∷ []));
+    who = calling_on r table clients client before after w.who (may_again r table before after w.who.may (Entry u.call) u.made) u.made.same (w.who.calls ++ Entry u.call ∷ []) (u.made.calls w.who.calls w.who.has);
+    few = omega (arith, fewer_before, ap length (entries_more w.who.calls u.call), length-append (entries_called w.who.calls) (u.call ∷ []));
     cannot = inr (record {
       place = length w.who.calls;
-      call = Entry u.told;
-      there = slice_get-last w.who.calls (Entry u.told);
+      call = Entry u.call;
+      there = slice_get-last w.who.calls (Entry u.call);
       op = op;
       is = record { limits = limits; value = value; has = sym (u.is.2 ∙ are) };
       bad = subst (AreOfNoReply m) (sym (ap (λ (a : Answer). a.reply) u.is.0)) bad;

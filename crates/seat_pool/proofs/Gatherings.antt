@@ -13,7 +13,7 @@ use Rattle.crossbeam_queue.specs.Passes.{view}
 use Rattle.atomic_table.specs.Seated.{TableId}
 use Rattle.std.specs.Option.{option_to_list}
 use Rattle.seat_pool.specs.declared.lent.Lent.{Lent}
-use Rattle.seat_pool.specs.Gathering.{Gathers, IsGathering, IsHandedOf, IsLentOf, IsTakingIn, handed_calls, handed_reads, if_stopped, kept_list, lent_kept, lent_shown, lent_told, handed_number}
+use Rattle.seat_pool.specs.Gathering.{Gathers, IsGathering, IsHandedOf, IsLentOf, IsTakingIn, handed_calls, handed_reads, if_stopped, kept_list, lent_kept, lent_reads, lent_calls, handed_number}
 use Rattle.seat_pool.specs.Pooling.{IsPassWhole, TellsRoom, all_parts, both, calls_of, total_weight, with_taken}
 use Rattle.seat_pool.specs.declared.hand.LenderPass.{LenderPass}
 use Rattle.seat_pool.specs.declared.hand.AnsweredCall.{AnsweredCall}
@@ -72,7 +72,7 @@ module _ {O : Type 0} (r : Running O) where
     home = g.home;
     parts = g.parts;
     placed = g.placed;
-    told = g.told;
+    told_calls = g.told_calls;
     shown = g.shown;
     gathers = gathers_taken v xs x g.gathers is;
   })
@@ -82,7 +82,7 @@ pub drained : (v w : LenderPass) → v.parts ≡ all_parts → w ≡ v → Held 
 drained v w parts same ([], long, tells) = subst (λ (u : LenderPass). IsPassWhole u []) (sym same) (tells.whole parts)
 drained v w parts same (x ∷ items, long, tells) = absurd (omega (arith, long))
 
--- the same, said of what a pass knows
+-- what is gathered for a pass is gathered for an equal one
 pub as_held : {O : Type 0} (r : Running O) (v w : LenderPass) (xs ys : List Handed) → w ≡ v → ys ≡ xs → Gathers r v.held xs → Gathers r w.held ys
 as_held r v w xs ys same list g = subst (λ (u : LenderPass). Gathers r u.held ys) (sym same) (subst (λ zs. Gathers r v.held zs) (sym list) g)
 
@@ -114,12 +114,12 @@ module _ {O : Type 0} (r : Running O) (table : TableId) where
         some = (let some_ = k.some in omega (arith, some_));
         parts = omega (arith, k.parts, is.parts, long);
         placed = ap (λ l. v.placed ++ l) is.placed ∙ append-nil v.placed ∙ k.placed;
-        told = λ h. (
-            let was : total_weight (lent_told h) rest ≡ total_weight (lent_told h) (after ++ x ∷ []) = ap (total_weight (lent_told h)) left in
-            omega (arith, was, k.told h, total_both (lent_told h) after (x ∷ []), total_both h v.told (view x.pass).told));
+        told_calls = λ h. (
+            let was : total_weight (lent_calls h) rest ≡ total_weight (lent_calls h) (after ++ x ∷ []) = ap (total_weight (lent_calls h)) left in
+            omega (arith, was, k.told_calls h, total_both (lent_calls h) after (x ∷ []), total_both h v.told_calls (view x.pass).told_calls));
         shown = λ h. (
-            let was : total_weight (lent_shown h) rest ≡ total_weight (lent_shown h) (after ++ x ∷ []) = ap (total_weight (lent_shown h)) left in
-            omega (arith, was, k.shown h, total_both (lent_shown h) after (x ∷ []), total_both h v.shown (view x.pass).shown));
+            let was : total_weight (lent_reads h) rest ≡ total_weight (lent_reads h) (after ++ x ∷ []) = ap (total_weight (lent_reads h)) left in
+            omega (arith, was, k.shown h, total_both (lent_reads h) after (x ∷ []), total_both h v.shown (view x.pass).shown));
         kept = λ f. (
             let was : total_weight (lent_kept f) rest ≡ total_weight (lent_kept f) (after ++ x ∷ []) = ap (total_weight (lent_kept f)) left in
             let grown : total_weight f ys ≡ total_weight f (xs ++ kept_list x.kept) = ap (total_weight f) more in

@@ -152,7 +152,7 @@ keeps_parts r v fits some_part = record { home = fits; idle = λ none. absurd (o
 record Balances (service : Shown) (items after : List Seated) (v w : LenderPass) : Type 0 where
   pub parts : w.parts ≡ v.parts
   pub callers : (h : ℕ → ℕ) → total_weight h w.placed + numbers_weigh h v.held + numbers_weigh h items ≡ total_weight h v.placed + numbers_weigh h w.held + numbers_weigh h after
-  pub calls : (h : AnsweredCall → ℕ) → total_weight h w.told + calls_weigh h v.held + calls_weigh h items ≡ total_weight h v.told + calls_weigh h w.held + calls_weigh h after
+  pub calls : (h : AnsweredCall → ℕ) → total_weight h w.told_calls + calls_weigh h v.held + calls_weigh h items ≡ total_weight h v.told_calls + calls_weigh h w.held + calls_weigh h after
   pub reads : (h : SeenRead → ℕ) → total_weight h w.shown + reads_weigh h v.held + reads_weigh h items ≤ total_weight h v.shown + reads_weigh h w.held + reads_weigh h after
 
 -- where a pass goes from `v` to `w` and the queue from `items` to `after`, and both balance, the rule is kept
@@ -169,9 +169,9 @@ moves items after views pass v w k at fits are room b = record {
       let held = total_set (λ (u : LenderPass). numbers_weigh h u.held) views pass v w at in
       omega (arith, placed, held, k.callers h, b.callers h));
   calls = λ h. (
-      let told = total_set (λ (u : LenderPass). total_weight h u.told) views pass v w at in
+      let told_calls = total_set (λ (u : LenderPass). total_weight h u.told_calls) views pass v w at in
       let held = total_set (λ (u : LenderPass). calls_weigh h u.held) views pass v w at in
-      omega (arith, told, held, k.calls h, b.calls h));
+      omega (arith, told_calls, held, k.calls h, b.calls h));
   reads = λ h. (
       let shown = total_set (λ (u : LenderPass). total_weight h u.shown) views pass v w at in
       let held = total_set (λ (u : LenderPass). reads_weigh h u.held) views pass v w at in
@@ -262,7 +262,7 @@ module _ {O : Type 0} where
               calls = λ h. (
                   let was : calls_weigh h v.held ≡ total_weight h (calls_of y) + calls_weigh h rest = ap (calls_weigh h) holds in
                   let grown : total_weight h (calls_of x) ≡ total_weight h (calls_of y) + total_weight h more = ap (total_weight h) first.calls ∙ total_both h (calls_of y) more in
-                  omega (arith, was, grown, total_both h v.told more, total_both (λ (z : Seated). total_weight h (calls_of z)) items (x ∷ [])));
+                  omega (arith, was, grown, total_both h v.told_calls more, total_both (λ (z : Seated). total_weight h (calls_of z)) items (x ∷ [])));
               reads = λ h. (
                   let was : reads_weigh h v.held ≡ total_weight h y.known.local.seen_reads + reads_weigh h rest = ap (reads_weigh h) holds in
                   let grown : total_weight h x.known.local.seen_reads ≡ total_weight h y.known.local.seen_reads + total_weight h new = ap (total_weight h) first.reads ∙ total_both h y.known.local.seen_reads new in
@@ -288,7 +288,7 @@ module _ {O : Type 0} where
         parts = omega (arith, cut (λ (u : LenderPass). u.parts), k.parts, more);
         room = omega (arith, cut (λ (u : LenderPass). length u.placed), k.room);
         callers = λ h. omega (arith, cut (λ (u : LenderPass). total_weight h u.placed), cut (λ (u : LenderPass). numbers_weigh h u.held), k.callers h);
-        calls = λ h. omega (arith, cut (λ (u : LenderPass). total_weight h u.told), cut (λ (u : LenderPass). calls_weigh h u.held), k.calls h);
+        calls = λ h. omega (arith, cut (λ (u : LenderPass). total_weight h u.told_calls), cut (λ (u : LenderPass). calls_weigh h u.held), k.calls h);
         reads = λ h. omega (arith, cut (λ (u : LenderPass). total_weight h u.shown), cut (λ (u : LenderPass). reads_weigh h u.held), k.reads h);
       })
 
@@ -299,7 +299,7 @@ module _ {O : Type 0} where
       let b = both v w in
       let fits = (k.views_are pass v at).home in
       let mine : FitsHand k.service b = keeps_parts k.service b (refits r k.service v.parts b.parts v.home of fits) (omega (arith, some_part)) in
-      let spent : FitsHand k.service nothing = record { home = refl; idle = λ z. record { placed = refl; held = refl; told = refl; shown = refl } } in
+      let spent : FitsHand k.service nothing = record { home = refl; idle = λ z. record { placed = refl; held = refl; told_calls = refl; shown = refl } } in
       let merged : (f : LenderPass → ℕ) → f b ≡ f v + f w → f nothing ≡ 0 → total_weight f (set (set views pass b) other nothing) ≡ total_weight f views = λ f adds none. (
       let first = total_set f views pass v b at in
       let second = total_set f (set views pass b) other w nothing at' in
@@ -315,9 +315,9 @@ module _ {O : Type 0} where
             let held = merged (λ (u : LenderPass). numbers_weigh h u.held) (total_both (λ (y : Seated). h y.known.local.number) v.held w.held) refl in
             omega (arith, placed, held, k.callers h));
         calls = λ h. (
-            let told = merged (λ (u : LenderPass). total_weight h u.told) (total_both h v.told w.told) refl in
+            let told_calls = merged (λ (u : LenderPass). total_weight h u.told_calls) (total_both h v.told_calls w.told_calls) refl in
             let held = merged (λ (u : LenderPass). calls_weigh h u.held) (total_both (λ (y : Seated). total_weight h (calls_of y)) v.held w.held) refl in
-            omega (arith, told, held, k.calls h));
+            omega (arith, told_calls, held, k.calls h));
         reads = λ h. (
             let shown = merged (λ (u : LenderPass). total_weight h u.shown) (total_both h v.shown w.shown) refl in
             let held = merged (λ (u : LenderPass). reads_weigh h u.held) (total_both (λ (y : Seated). total_weight h y.known.local.seen_reads) v.held w.held) refl in
@@ -335,9 +335,9 @@ module _ {O : Type 0} where
               let held' = total_whole (λ (u : LenderPass). numbers_weigh h u.held) (λ (u : LenderPass). u.parts) views pass v (λ j u e z. ap (numbers_weigh h) ((k.views_are j u e).idle z).held) at (k.parts ∙ sym parts) in
               omega (arith, placed', held', k.callers h));
           calls = λ h. (
-              let told' = total_whole (λ (u : LenderPass). total_weight h u.told) (λ (u : LenderPass). u.parts) views pass v (λ j u e z. ap (total_weight h) ((k.views_are j u e).idle z).told) at (k.parts ∙ sym parts) in
+              let told_calls' = total_whole (λ (u : LenderPass). total_weight h u.told_calls) (λ (u : LenderPass). u.parts) views pass v (λ j u e z. ap (total_weight h) ((k.views_are j u e).idle z).told_calls) at (k.parts ∙ sym parts) in
               let held' = total_whole (λ (u : LenderPass). calls_weigh h u.held) (λ (u : LenderPass). u.parts) views pass v (λ j u e z. ap (calls_weigh h) ((k.views_are j u e).idle z).held) at (k.parts ∙ sym parts) in
-              omega (arith, told', held', k.calls h));
+              omega (arith, told_calls', held', k.calls h));
           reads = λ h. (
               let shown' = total_whole (λ (u : LenderPass). total_weight h u.shown) (λ (u : LenderPass). u.parts) views pass v (λ j u e z. ap (total_weight h) ((k.views_are j u e).idle z).shown) at (k.parts ∙ sym parts) in
               let held' = total_whole (λ (u : LenderPass). reads_weigh h u.held) (λ (u : LenderPass). u.parts) views pass v (λ j u e z. ap (reads_weigh h) ((k.views_are j u e).idle z).held) at (k.parts ∙ sym parts) in
@@ -361,7 +361,7 @@ opens zero home items views (inl new) at =
     })))
   where
     spent : FitsHand (shown_by home) nothing
-    spent = record { home = refl; idle = λ z. record { placed = refl; held = refl; told = refl; shown = refl } }
+    spent = record { home = refl; idle = λ z. record { placed = refl; held = refl; told_calls = refl; shown = refl } }
 
     one : FitsHand (shown_by home) (opened_pass home) → AllFit (shown_by home) (opened_pass home ∷ [])
     one fits zero u e = subst (FitsHand (shown_by home)) (some-injective (opened_pass home) u e) fits
@@ -380,8 +380,8 @@ is_short v cap n parts room fits (items, long, tells) = (let most = not_full v i
 -- what was taken out is a caller of the service
 pub taken : {O : Type 0} (r : Running O) (v w : LenderPass) (found : Option Seated) (none : Type 0) → IsHomeOf r v.home → MatchOption found none (λ x. IsCallerTaken v x w)
     → MatchOption found none (λ x. IsCallerOf r x × HasLimit (limits_at v.home) x × (w ≡ with_taken v x) × (length v.held < r.callers))
-taken r v w None none of told = told
-taken r v w (Some x) none of told = ((from_home r v.home x of told.0).0, (from_home r v.home x of told.0).1, told.1, (let count = home_callers r v.home of in let most = told.2 in omega (arith, count, most)))
+taken r v w None none of is_empty = is_empty
+taken r v w (Some x) none of is_taken = ((from_home r v.home x of is_taken.0).0, (from_home r v.home x of is_taken.0).1, is_taken.1, (let count = home_callers r v.home of in let most = is_taken.2 in omega (arith, count, most)))
 
 -- a pass holds no more callers than there are
 pub within : {O : Type 0} (r : Running O) (v : LenderPass) (items : List Seated) → IsHomeOf r v.home → TellsRoom v items → length v.held ≤ r.callers

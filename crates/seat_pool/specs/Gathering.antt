@@ -22,6 +22,7 @@ IsHandedOf r (Idle seat) = IsCallerOf r seat
 IsHandedOf r (Linked seat) = IsLinkedOf r seat
 IsHandedOf r (Stopped stopped) = IsStoppedOf r stopped.seat
 
+-- the number of a caller, in whatever state it is
 abbrev pub handed_number : Handed → ℕ
 handed_number g = (seat_of g).known.local.number
 
@@ -29,7 +30,7 @@ handed_number g = (seat_of g).known.local.number
 abbrev pub handed_calls : (AnsweredCall → ℕ) → Handed → ℕ
 handed_calls h g = total_weight h (calls_of (seat_of g))
 
--- the weight of its reads
+-- the weight of the reads that a caller made beside the queue
 abbrev pub handed_reads : (SeenRead → ℕ) → Handed → ℕ
 handed_reads h g = total_weight h (seat_of g).known.local.seen_reads
 
@@ -39,8 +40,8 @@ if_stopped h (Idle seat) = 0
 if_stopped h (Linked seat) = 0
 if_stopped h (Stopped stopped) = h stopped.seat.known.local.number
 
--- These are the callers that are held, each once, in whatever state they are now. Each has the answered calls that it had when it was taken, and a
--- stopped one at most one more, which was told to nobody; and it has the reads that it had.
+-- What is gathered are the callers that a pass holds, each once, in whatever state they are now. Each has the answered calls that it had when it was taken, and
+-- a stopped one at most one more, which was told to nobody; and it has the reads that it had.
 pub record Gathers {O : Type 0} (r : Running O) (held : List Seated) (gathered : List Handed) : Type 0 where
   pub of : All (IsHandedOf r) gathered
   pub numbers : (h : ℕ → ℕ) → total_weight (λ (g : Handed). h (handed_number g)) gathered ≡ numbers_weigh h held
@@ -71,13 +72,15 @@ pub record IsLentOf {O : Type 0} (r : Running O) (table : TableId) (lent : Lent)
   pub placed : (view lent.pass).placed ≡ []
   pub kept : Gathers r (view lent.pass).held (kept_list lent.kept)
 
--- the weight of the calls that were told to a client, of the reads that it was shown, and of the caller that it keeps
-abbrev pub lent_told : (AnsweredCall → ℕ) → Lent → ℕ
-lent_told h lent = total_weight h (view lent.pass).told
+-- the weight of the calls that were told to a client
+abbrev pub lent_calls : (AnsweredCall → ℕ) → Lent → ℕ
+lent_calls h lent = total_weight h (view lent.pass).told_calls
 
-abbrev pub lent_shown : (SeenRead → ℕ) → Lent → ℕ
-lent_shown h lent = total_weight h (view lent.pass).shown
+-- the weight of the reads that a client was shown
+abbrev pub lent_reads : (SeenRead → ℕ) → Lent → ℕ
+lent_reads h lent = total_weight h (view lent.pass).shown
 
+-- the weight of the caller that a client keeps, where it keeps one
 abbrev pub lent_kept : (Handed → ℕ) → Lent → ℕ
 lent_kept f lent = total_weight f (kept_list lent.kept)
 
@@ -90,7 +93,7 @@ pub record IsGathering {O : Type 0} (r : Running O) (before v : LenderPass) (gat
   pub home : IsHomeOf r v.home
   pub parts : v.parts ≡ all_parts
   pub placed : v.placed ≡ before.placed
-  pub told : v.told ≡ before.told
+  pub told_calls : v.told_calls ≡ before.told_calls
   pub shown : v.shown ≡ before.shown
   pub gathers : Gathers r v.held gathered
 
@@ -124,7 +127,7 @@ pub record IsRestOf {O : Type 0} (r : Running O) (v : LenderPass) (lent : ℕ) :
   pub parts : v.parts + lent ≡ all_parts
   pub placed : v.placed ≡ range_with_len 0 r.callers
   pub held : v.held ≡ []
-  pub told : v.told ≡ []
+  pub told_calls : v.told_calls ≡ []
   pub shown : v.shown ≡ []
 
 -- The answered calls of the callers are those that were told to clients, each once, and at most one further of each stopped caller. The reads that
@@ -132,9 +135,9 @@ pub record IsRestOf {O : Type 0} (r : Running O) (v : LenderPass) (lent : ℕ) :
 pub record AreCallsTold {O : Type 0} (r : Running O) (lents : List Lent) (handed : List Handed) : Type 0 where
   pub of : All (IsHandedOf r) handed
   pub untold : List AnsweredCall
-  pub calls : (h : AnsweredCall → ℕ) → total_weight (handed_calls h) handed ≡ total_weight (lent_told h) lents + total_weight h untold
+  pub calls : (h : AnsweredCall → ℕ) → total_weight (handed_calls h) handed ≡ total_weight (lent_calls h) lents + total_weight h untold
   pub few : (h : ℕ → ℕ) → total_weight (λ (t : AnsweredCall). h t.caller) untold ≤ total_weight (if_stopped h) handed
-  pub reads : (h : SeenRead → ℕ) → total_weight (lent_shown h) lents ≤ total_weight (handed_reads h) handed
+  pub reads : (h : SeenRead → ℕ) → total_weight (lent_reads h) lents ≤ total_weight (handed_reads h) handed
   pub kept : (f : Handed → ℕ) → total_weight (lent_kept f) lents ≤ total_weight f handed
   pub others : (f : Handed → ℕ) → ((s : Seated) → f (Idle s) ≡ 0) → total_weight f handed ≡ total_weight (lent_kept f) lents
 
@@ -144,8 +147,8 @@ pub record IsTakingIn {O : Type 0} (r : Running O) (table : TableId) (all : List
   pub some : 0 < v.parts
   pub parts : v.parts + length rest ≡ all_parts
   pub placed : v.placed ≡ range_with_len 0 r.callers
-  pub told : (h : AnsweredCall → ℕ) → total_weight h v.told + total_weight (lent_told h) rest ≡ total_weight (lent_told h) all
-  pub shown : (h : SeenRead → ℕ) → total_weight h v.shown + total_weight (lent_shown h) rest ≡ total_weight (lent_shown h) all
+  pub told_calls : (h : AnsweredCall → ℕ) → total_weight h v.told_calls + total_weight (lent_calls h) rest ≡ total_weight (lent_calls h) all
+  pub shown : (h : SeenRead → ℕ) → total_weight h v.shown + total_weight (lent_reads h) rest ≡ total_weight (lent_reads h) all
   pub kept : (f : Handed → ℕ) → total_weight f gathered + total_weight (lent_kept f) rest ≡ total_weight (lent_kept f) all
   pub lents : All (IsLentOf r table) rest
   pub gathers : Gathers r v.held gathered

@@ -17,6 +17,7 @@ use Rattle.seat_pool.specs.declared.hand.AnsweredCall.{AnsweredCall}
 abbrev pub Shown : Type 0
 Shown = Running (List ℕ)
 
+-- the service that a pass knows, as far as its callers show it
 abbrev pub shown_by : ServiceView → Shown
 shown_by home = record { table = home.first.table; callers = home.callers; lines = 0; base = home.base; object = home.limits }
 
@@ -45,6 +46,7 @@ calls_from n [] answers = []
 calls_from n (x ∷ own) [] = []
 calls_from n (x ∷ own) (a ∷ answers) = record { caller = n; entry = x; answer = a } ∷ calls_from n own answers
 
+-- the answered calls of a caller
 abbrev pub calls_of : Seated → List AnsweredCall
 calls_of x = calls_from x.known.local.number x.known.local.own x.known.local.answered
 
@@ -60,8 +62,9 @@ calls_weigh h xs = total_weight (λ (x : Seated). total_weight h (calls_of x)) x
 abbrev pub reads_weigh : (SeenRead → ℕ) → List Seated → ℕ
 reads_weigh h xs = total_weight (λ (x : Seated). total_weight h x.known.local.seen_reads) xs
 
+-- what a pass knows and holds, by its parts
 abbrev pub hand : Option ServiceView → ℕ → List ℕ → List Seated → List AnsweredCall → List SeenRead → List Returned → LenderPass
-hand home parts placed held told shown returned = record { home = home; parts = parts; placed = placed; held = held; told = told; shown = shown; returned = returned }
+hand home parts placed held told_calls shown returned = record { home = home; parts = parts; placed = placed; held = held; told_calls = told_calls; shown = shown; returned = returned }
 
 -- the parts of the right to know the whole
 abbrev pub all_parts : ℕ
@@ -75,62 +78,66 @@ nothing = hand None 0 [] [] [] [] []
 abbrev pub fresh : LenderPass
 fresh = hand None all_parts [] [] [] [] []
 
--- it knows the service, once
+-- the first pass of a queue once it knows the service: it has every part, and no caller is placed yet
 abbrev pub opened_pass : ServiceView → LenderPass
 opened_pass home = hand (Some home) all_parts [] [] [] [] []
 
 -- a caller was put into the queue for the first time
 abbrev pub with_placed : LenderPass → Seated → LenderPass
-with_placed v x = hand v.home v.parts (v.placed ++ x.known.local.number ∷ []) v.held v.told v.shown v.returned
+with_placed v x = hand v.home v.parts (v.placed ++ x.known.local.number ∷ []) v.held v.told_calls v.shown v.returned
 
 -- a caller was taken out: it is held, as it was then
 abbrev pub with_taken : LenderPass → Seated → LenderPass
-with_taken v x = hand v.home v.parts v.placed (x ∷ v.held) v.told v.shown v.returned
+with_taken v x = hand v.home v.parts v.placed (x ∷ v.held) v.told_calls v.shown v.returned
 
 -- the first of those held was given back: the calls that it has more are told, the reads that it has more are shown, and both of its states are noted
 abbrev pub given_from : LenderPass → List Seated → Seated → LenderPass
 given_from v [] x = v
 given_from v (y ∷ rest) x =
-    hand v.home v.parts v.placed rest (v.told ++ drop (length (calls_of y)) (calls_of x)) (v.shown ++ drop (length y.known.local.seen_reads) x.known.local.seen_reads)
+    hand v.home v.parts v.placed rest (v.told_calls ++ drop (length (calls_of y)) (calls_of x)) (v.shown ++ drop (length y.known.local.seen_reads) x.known.local.seen_reads)
     (v.returned ++ record { taken = y; back = x } ∷ [])
 
+-- the first of the callers that a pass holds was given back, and is this one now
 abbrev pub with_given : LenderPass → Seated → LenderPass
 with_given v x = given_from v v.held x
 
--- it is a caller of this number and limit, with further calls and reads behind those that it had
+-- The caller `x` is `y` later: it has the number and the limit of `y`, and its calls and reads are those of `y` with further ones behind.
 pub record GoesOnCalling (y x : Seated) : Type 0 where
   pub number : x.known.local.number ≡ y.known.local.number
   pub limit : x.known.local.limit ≡ y.known.local.limit
   pub calls : calls_of x ≡ calls_of y ++ drop (length (calls_of y)) (calls_of x)
   pub reads : x.known.local.seen_reads ≡ y.known.local.seen_reads ++ drop (length y.known.local.seen_reads) x.known.local.seen_reads
 
--- it is the first of those held
+-- the caller is the one that a pass holds first, and may have made further calls and reads since it was taken
 abbrev pub IsFirstOf : List Seated → Seated → Type 0
 IsFirstOf [] x = ⊥
 IsFirstOf (y ∷ rest) x = GoesOnCalling y x
 
--- a pass without one part, and a pass with that part alone
+-- a pass without one of its parts
 abbrev pub cut_left : LenderPass → LenderPass
-cut_left v = hand v.home (v.parts - 1) v.placed v.held v.told v.shown v.returned
+cut_left v = hand v.home (v.parts - 1) v.placed v.held v.told_calls v.shown v.returned
 
+-- the pass of one part that is made of another: it knows the same service, and nothing else
 abbrev pub cut_right : LenderPass → LenderPass
 cut_right v = hand v.home 1 [] [] [] [] []
 
 -- what two passes know and hold, in one
 abbrev pub both : LenderPass → LenderPass → LenderPass
-both v w = hand v.home (v.parts + w.parts) (v.placed ++ w.placed) (v.held ++ w.held) (v.told ++ w.told) (v.shown ++ w.shown) (v.returned ++ w.returned)
+both v w = hand v.home (v.parts + w.parts) (v.placed ++ w.placed) (v.held ++ w.held) (v.told_calls ++ w.told_calls) (v.shown ++ w.shown) (v.returned ++ w.returned)
 
--- it knows this service, or it has no part
+-- a pass with this many parts knows this service; one that knows none has no part
 abbrev pub FitsHome : Shown → ℕ → Option ServiceView → Type 0
 FitsHome r parts None = parts ≡ 0
 FitsHome r parts (Some home) = shown_by home ≡ r
 
+-- a pass placed no caller, holds none, and was told no call and shown no read
 pub record IsPassIdle (v : LenderPass) : Type 0 where
   pub placed : v.placed ≡ []
   pub held : v.held ≡ []
-  pub told : v.told ≡ []
+  pub told_calls : v.told_calls ≡ []
   pub shown : v.shown ≡ []
 
+-- a pass knows this service, and one without a part has done nothing
 pub record FitsHand (r : Shown) (v : LenderPass) : Type 0 where
   pub home : FitsHome r v.parts v.home
   pub idle : v.parts ≡ 0 → IsPassIdle v
@@ -145,7 +152,7 @@ pub record KeepsCallers (items : List Seated) (views : List LenderPass) : Type 0
   pub parts : total_weight (λ (v : LenderPass). v.parts) views ≡ all_parts
   pub room : total_weight (λ (v : LenderPass). length v.placed) views ≤ service.callers
   pub callers : (h : ℕ → ℕ) → total_weight (λ (v : LenderPass). total_weight h v.placed) views ≡ total_weight (λ (v : LenderPass). numbers_weigh h v.held) views + numbers_weigh h items
-  pub calls : (h : AnsweredCall → ℕ) → total_weight (λ (v : LenderPass). total_weight h v.told) views ≡ total_weight (λ (v : LenderPass). calls_weigh h v.held) views + calls_weigh h items
+  pub calls : (h : AnsweredCall → ℕ) → total_weight (λ (v : LenderPass). total_weight h v.told_calls) views ≡ total_weight (λ (v : LenderPass). calls_weigh h v.held) views + calls_weigh h items
   pub reads : (h : SeenRead → ℕ) → total_weight (λ (v : LenderPass). total_weight h v.shown) views ≤ total_weight (λ (v : LenderPass). reads_weigh h v.held) views + reads_weigh h items
 
 -- the callers are kept, or the queue is new
@@ -167,19 +174,19 @@ abbrev pub limits_at : Option ServiceView → List ℕ
 limits_at None = []
 limits_at (Some home) = home.limits
 
--- it is a caller of the service that the pass knows
+-- a caller is one of the service that a pass knows, with the limit that the pass knows of it
 abbrev pub IsCallerAt : Option ServiceView → Seated → Type 0
 IsCallerAt None x = ⊥
 IsCallerAt (Some home) x = IsLentBy (shown_by home) x
 
--- what came out is such a caller, and the pass held fewer than there are
+-- a caller of the service that the pass knows was taken out, and the pass held fewer callers than the service has
 abbrev pub IsCallerTaken : LenderPass → Seated → LenderPass → Type 0
 IsCallerTaken v x w = IsCallerAt v.home x × (w ≡ with_taken v x) × (length v.held < callers_at v.home)
 
 -- All that was placed is with this pass or in the queue, the calls told to it are theirs, and the reads shown to it are among theirs.
 pub record IsPassWhole (v : LenderPass) (items : List Seated) : Type 0 where
   pub callers : (h : ℕ → ℕ) → total_weight h v.placed ≡ numbers_weigh h v.held + numbers_weigh h items
-  pub calls : (h : AnsweredCall → ℕ) → total_weight h v.told ≡ calls_weigh h v.held + calls_weigh h items
+  pub calls : (h : AnsweredCall → ℕ) → total_weight h v.told_calls ≡ calls_weigh h v.held + calls_weigh h items
   pub reads : (h : SeenRead → ℕ) → total_weight h v.shown ≤ reads_weigh h v.held + reads_weigh h items
 
 -- what a pass learns of the queue: there is room in it for what the pass holds, and a pass with every part learns the whole
@@ -194,12 +201,13 @@ pub record IsPassOpened {O : Type 0} (r : Running O) (limits : List ℕ) (v : Le
   pub parts : v.parts ≡ all_parts
   pub placed : v.placed ≡ []
   pub held : v.held ≡ []
-  pub told : v.told ≡ []
+  pub told_calls : v.told_calls ≡ []
   pub shown : v.shown ≡ []
 
 -- the calls that a pass was told, once it gave this caller back
-abbrev pub hand_told : LenderPass → Seated → List AnsweredCall
-hand_told v x = (with_given v x).told
+abbrev pub told_calls_after_giving : LenderPass → Seated → List AnsweredCall
+told_calls_after_giving v x = (with_given v x).told_calls
 
-abbrev pub told_with : ℕ → Linked → Answer → AnsweredCall
-told_with n entry answer = record { caller = n; entry = entry; answer = answer }
+-- the answered call of the caller of this number, with its entry and its answer
+abbrev pub call_with : ℕ → Linked → Answer → AnsweredCall
+call_with n entry answer = record { caller = n; entry = entry; answer = answer }

@@ -54,7 +54,7 @@ pub(crate) fn drain<O: Object, R: Wait>(
     requires { (IsPassOf line.now pass.old × IsHomeOf service.now (view pass.old).home × ((view pass.old).parts ≡ all_parts)) × (Gathers service.now (view pass.old).held gathered.items × (service.now.callers ≤ vec_capacity gathered)) }
     ensures gathered { Gathers service.now (view pass.new).held result.items }
     ensures whole { IsPassWhole (view pass.new) [] }
-    ensures same { ((view pass.new).placed ≡ (view pass.old).placed) × ((view pass.new).told ≡ (view pass.old).told) × ((view pass.new).shown ≡ (view pass.old).shown) }
+    ensures same { ((view pass.new).placed ≡ (view pass.old).placed) × ((view pass.new).told_calls ≡ (view pass.old).told_calls) × ((view pass.new).shown ≡ (view pass.old).shown) }
     ensures more { (f : handed_type.Handed → ℕ) → total_weight f gathered.items ≤ total_weight f result.items }
     ensures idle { (f : handed_type.Handed → ℕ) → ((s : Seated) → f (handed_cases.Idle s) ≡ 0) → total_weight f result.items ≡ total_weight f gathered.items }
 {
@@ -130,7 +130,7 @@ pub(crate) fn gather<O: Object, R: Wait>(
     requires lents { All (IsLentOf service.now line.now.table.shared.table_id) lents.items }
     requires rooms { IsRoomFor service.now.callers gathered × IsRoomFor service.now.callers out }
     ensures seats { AreSeats service.now (seats_of result.items) }
-    ensures told { AreCallsTold service.now lents.items result.items }
+    ensures are_told { AreCallsTold service.now lents.items result.items }
 {
     let mut pass = pass;
     let mut lents = lents;

@@ -32,7 +32,7 @@ pub struct LenderPass {
     pub parts: u32,
     pub placed: LinkedList<u32>,
     pub held: LinkedList<Caller>,
-    pub told: LinkedList<AnsweredCall>,
+    pub told_calls: LinkedList<AnsweredCall>,
     pub shown: LinkedList<SeenRead>,
     pub returned: LinkedList<Returned>,
 }

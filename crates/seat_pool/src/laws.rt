@@ -9,7 +9,7 @@ ghost use Rattle.cx_service.specs.Submits.{next_entry};
 ghost use Rattle.cx_service.specs.Updates.{UpdateDone, UpdateHalted};
 ghost use Rattle.cx_service.specs.declared.close.Handed.TheVariants as handed_cases;
 ghost use Rattle.seat_pool.specs.Gathering.{Gathers, StaysIdle};
-ghost use Rattle.seat_pool.specs.Pooling.{IsFirstOf, hand_told, told_with, with_given};
+ghost use Rattle.seat_pool.specs.Pooling.{IsFirstOf, call_with, told_calls_after_giving, with_given};
 ghost use Rattle.seat_pool.specs.declared.hand.LenderPass as hand_hand;
 
 use cx_base::Object;
@@ -19,14 +19,14 @@ use cx_service::Service;
 /// in that push is the update's entry with its answer, and nothing else.
 pub fn answers_are_told<O: Object>(service: &Service<O>)
     ensures { (op : List ℕ) (taken before after : Seated) (rest : List Seated) (answer : local_answer.Answer) (v : hand_hand.LenderPass) → v.held ≡ taken ∷ rest → StaysIdle service.now taken before → UpdateDone service.now op before after answer →
-        IsFirstOf v.held after × (hand_told v after ≡ v.told ++ told_with before.known.local.number (next_entry service.now before.known.local op answer.ticket) answer ∷ []) }
+        IsFirstOf v.held after × (told_calls_after_giving v after ≡ v.told_calls ++ call_with before.known.local.number (next_entry service.now before.known.local op answer.ticket) answer ∷ []) }
 {}
 
 /// A caller without an answered call since it was taken may be given back too: the pass is told nothing in that push, and shown the reads that the caller has
 /// more.
 pub fn reads_are_shown<O: Object>(service: &Service<O>)
     ensures { (taken now : Seated) (rest : List Seated) (v : hand_hand.LenderPass) → v.held ≡ taken ∷ rest → (idle : StaysIdle service.now taken now) →
-        IsFirstOf v.held now × (hand_told v now ≡ v.told) × ((with_given v now).shown ≡ v.shown ++ idle.more) }
+        IsFirstOf v.held now × (told_calls_after_giving v now ≡ v.told_calls) × ((with_given v now).shown ≡ v.shown ++ idle.more) }
 {}
 
 /// Such a caller is one that its client may keep until the closing.

@@ -32,11 +32,11 @@ module _ {O W : Type 0} (r : Running O) (handed : W → Handed) where
   pub seats_after : (olds : List Seated) (news : List W) → length news ≡ length olds → AllBack olds news → AreSeats r olds → AreSeats r (after news)
   seats_after olds news long each all = (let b = both olds news long each in record { of = b.0; numbers = b.1 ∙ all.numbers })
 
--- what is told of each is so
-pub tells_each : {W T : Type 0} (tells : Seated → Seated → T → Type 0) (handed : W → Handed) (told : W → T) (olds : List Seated) (news : List W) → length news ≡ length olds
-    → ((k : ℕ) (d : Seated) (e : W) → k < length olds → tells (get_or olds k d) (seat_of (handed (get_or news k e))) (told (get_or news k e))) → TellsEach tells olds (seats_of (map handed news)) (map told news)
-tells_each tells handed told [] [] long each = tt
-tells_each tells handed told [] (x ∷ news) long each = absurd (omega (arith, long))
-tells_each tells handed told (s ∷ olds) [] long each = absurd (omega (arith, long))
-tells_each tells handed told (s ∷ olds) (x ∷ news) long each =
-    (each 0 s x (omega arith), tells_each tells handed told olds news (omega (arith, long)) (λ k d e below. each (suc k) d e (omega (arith, below))))
+-- what is said of the output of each is so of its caller
+pub tells_each : {W T : Type 0} (tells : Seated → Seated → T → Type 0) (handed : W → Handed) (output : W → T) (olds : List Seated) (news : List W) → length news ≡ length olds
+    → ((k : ℕ) (d : Seated) (e : W) → k < length olds → tells (get_or olds k d) (seat_of (handed (get_or news k e))) (output (get_or news k e))) → TellsEach tells olds (seats_of (map handed news)) (map output news)
+tells_each tells handed output [] [] long each = tt
+tells_each tells handed output [] (x ∷ news) long each = absurd (omega (arith, long))
+tells_each tells handed output (s ∷ olds) [] long each = absurd (omega (arith, long))
+tells_each tells handed output (s ∷ olds) (x ∷ news) long each =
+    (each 0 s x (omega arith), tells_each tells handed output olds news (omega (arith, long)) (λ k d e below. each (suc k) d e (omega (arith, below))))

@@ -22,7 +22,7 @@ module _ {O : Type 0} (o : Ghosts O) where
   Answers object image answer =
       MatchResult answer (IsRecovered (o.version_number object) (o.lawful object) (o.old_format object) image) (IsFaultOf (o.version_number object) (o.lawful object) (o.old_format object) image)
 
-  -- of what a closed table left it answers no refusal, as its law says
+  -- recovery by an object answers no refusal of an image that a closed table of it left, as its law says
   abbrev pub Recovers : Type 0
   Recovers =
       (table : Running O) (seats : List Seated) (r : Remains) (choice : ℕ) (image : Image) (answer : Result Base ImageFault) → IsOpened o.line_count o.lawful table →
@@ -30,7 +30,7 @@ module _ {O : Type 0} (o : Ghosts O) where
       MatchResult answer (IsKeptBy o.line_count o.lawful o.step table seats r choice) (λ fault. fault ≡ Memory)
 
   module _ (object : O) (r : Remains) (choice : ℕ) (left : IsLeftBy o object r) where
-    -- so it is by an equal object
+    -- recovery by an object equal to that of the closed table answers no refusal either
     pub recovered_of : Recovers → (image : Image) → IsLeftOf r choice image → (answer : Result Base ImageFault) → Answers object image answer → MatchResult answer (IsKeptOf left choice) (λ fault. fault ≡ Memory)
     recovered_of law image left_of answer is =
         law left.table left.seats r choice image answer left.opened left.leaves left_of (subst (λ (x : O). Answers x image answer) (sym left.object_is) is)
@@ -38,7 +38,7 @@ module _ {O : Type 0} (o : Ghosts O) where
     pub readable_of : (image : Image) → IsReadable (o.line_count left.table.object) image → IsReadable (o.line_count object) image
     readable_of image = subst (λ (x : O). IsReadable (o.line_count x) image) left.object_is
 
-    -- and from what is kept the next service may start
+    -- the next service may start from what is kept
     pub may_of : (base : Base) → IsKeptOf left choice base → MayServe o object base
     may_of base kept =
         let lines : left.table.lines ≡ o.line_count object = left.opened.lines ∙ ap o.line_count left.object_is in

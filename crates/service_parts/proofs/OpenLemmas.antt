@@ -31,25 +31,25 @@ module _ {O : Type 0} (o : Ghosts O) (object : O) where
         };
       }
 
-  -- what such a service leaves, it left
+  -- what a service that was started from a base leaves is left by its object, with its callers and its base
   pub served_of : (callers : ℕ) (base : Base) (service : Running O) (r : Remains) → IsOpen o object callers base service → IsServiceFrom o service.object service.callers service.base r → IsServiceFrom o object callers base r
   served_of callers base service r is served =
       subst (λ (b : Base). IsServiceFrom o object callers b r) is.base_is
       (subst (λ (n : ℕ). IsServiceFrom o object n service.base r) is.callers_are
       (subst (λ (x : O). IsServiceFrom o x service.callers service.base r) is.object_is served))
 
--- as many callers as were asked for
+-- a service that was started has as many callers as were asked for
 pub count_of : {O : Type 0} (object : O) (lines callers : ℕ) (limits : List ℕ) (base : Base) (service : Running O) (seats : List Seated) → Starts object lines callers limits base service seats → length seats ≡ callers
 count_of object lines callers limits base service seats starts = ap length starts.opened ∙ length-map-range_with_len (opening_seat service limits) 0 callers
 
--- which have made no step
+-- none of the callers of a service that was started has made a step
 pub new_of : {O : Type 0} (object : O) (lines callers : ℕ) (limits : List ℕ) (base : Base) (service : Running O) (seats : List Seated) → Starts object lines callers limits base service seats → AreNew service callers seats
 new_of object lines callers limits base service seats starts = (limits, starts.opened)
 
--- a service that was started from a base is served, and what was told of its callers is so
-pub told_of : {O T : Type 0} (o : Ghosts O) (object : O) (callers : ℕ) (base : Base) (tells : Running O → Seated → Seated → T → Type 0) (service : Running O) (new seats : List Seated) (told : List T) (r : Remains) → IsOpen o object callers base service
-    → AreNew service callers new → IsClosedLinearizable service (instance_at service o.step o.only_reads) seats r → TellsEach (tells service) new seats told → IsServedBy o object callers base tells r told
-told_of o object callers base tells service new seats told r is are_new leaves tells_so = record {
+-- a service that was started from a base is served, and what is said of the outputs is so of its callers
+pub served_by : {O T : Type 0} (o : Ghosts O) (object : O) (callers : ℕ) (base : Base) (tells : Running O → Seated → Seated → T → Type 0) (service : Running O) (new seats : List Seated) (outputs : List T) (r : Remains) → IsOpen o object callers base service
+    → AreNew service callers new → IsClosedLinearizable service (instance_at service o.step o.only_reads) seats r → TellsEach (tells service) new seats outputs → IsServedBy o object callers base tells r outputs
+served_by o object callers base tells service new seats outputs r is are_new leaves tells_so = record {
   served = record {
     left = record { table = service; seats = seats; object_is = is.object_is; opened = is.opened; leaves = leaves.leaves; order = leaves.order };
     callers_are = is.callers_are;

@@ -33,7 +33,7 @@ pub record IsOperationAnswered {O : Type 0} (r : Running O) (op : List ℕ) (tic
   pub answered : after.known.local.answered ≡ with_answer ticket reply before.known.local.answered
   pub ended : EndsIn after.known.local.steps before.known.times.answered after.known.times.answered
 
--- nothing is done
+-- a caller comes back in no call, and has done nothing
 pub record IsLeftAlone {O : Type 0} (r : Running O) (before after : Seated) : Type 0 where
   pub caller : IsCallerOf r after
   pub keeps : KeepsLists before after

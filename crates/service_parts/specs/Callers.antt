@@ -35,22 +35,22 @@ pub record AreAllCallers {O : Type 0} (r : Running O) (seats : List Seated) : Ty
   pub each : All (IsCallerOf r) seats
   pub all : AreSeats r seats
 
--- The result of a worker that was lent a caller: the caller is handed back, and what is told is so of it.
-pub record IsWorked {O T : Type 0} (r : Running O) (tells : Running O → Seated → Seated → T → Type 0) (before : Seated) (handed : Handed) (told : T) : Type 0 where
+-- The result of a worker that was lent a caller: the caller is handed back, and what the worker says of its output is so of it.
+pub record IsWorked {O T : Type 0} (r : Running O) (tells : Running O → Seated → Seated → T → Type 0) (before : Seated) (handed : Handed) (output : T) : Type 0 where
   pub back : IsHandedBy r before handed
-  pub tells_so : tells r before (seat_of handed) told
+  pub tells_so : tells r before (seat_of handed) output
 
--- what is told is so of each caller in turn, by its seat as it was lent and as it was handed back
+-- what is said of an output is so of each caller in turn, by its seat as it was lent and as it was handed back
 abbrev pub TellsEach : {T : Type 0} → (Seated → Seated → T → Type 0) → List Seated → List Seated → List T → Type 0
 TellsEach tells [] [] [] = Unit {0}
-TellsEach tells (before ∷ befores) (after ∷ afters) (told ∷ tolds) = tells before after told × TellsEach tells befores afters tolds
-TellsEach tells befores afters tolds = ⊥
+TellsEach tells (before ∷ befores) (after ∷ afters) (output ∷ outputs) = tells before after output × TellsEach tells befores afters outputs
+TellsEach tells befores afters outputs = ⊥
 
--- each caller that was lent is handed back, of caller 0 first, and what is told is so of it
-pub record HaveWorked {O T : Type 0} (r : Running O) (tells_of : Seated → Seated → T → Type 0) (lent handed_back : List Seated) (told : List T) : Type 0 where
+-- each caller that was lent is handed back, of caller 0 first, and what is said of its worker's output is so of it
+pub record HaveWorked {O T : Type 0} (r : Running O) (tells_of : Seated → Seated → T → Type 0) (lent handed_back : List Seated) (outputs : List T) : Type 0 where
   pub handed : AreSeats r handed_back
-  pub count : length told ≡ length lent
-  pub tells : TellsEach tells_of lent handed_back told
+  pub count : length outputs ≡ length lent
+  pub tells : TellsEach tells_of lent handed_back outputs
 
 -- all the callers of a service, of caller 0 first, none of which has made a step
 abbrev pub AreNew : {O : Type 0} → Running O → ℕ → List Seated → Type 0

@@ -6,8 +6,8 @@
 //!
 //! - An operation is done once and its reply told, or a reading is answered beside the queue; the same caller is handed back: `ask`
 //!   (`IsAsked`). Its place is told too: who catches up with it by `follow` sees it, and so do all later calls of that caller (`KeepsPlaces`).
-//! - A worker hands each caller back, and so all the callers of the service are there again: `Worker`, `work_together`. What it says of a
-//!   telling is so of each caller, from before its first step to the closing: `Worker::tells`, `serve` (`IsServedBy`).
+//! - A worker hands each caller back, and so all the callers of the service are there again: `Worker`, `work_together`. What it says of an
+//!   output is so of that caller, from before its first step to the closing: `Worker::tells`, `serve` (`IsServedBy`).
 //! - What was left by a life is recovered, with every answer in it, by the object that it was of: `serve` (`IsLeftBy`), `recovered`.
 #![tactic(auto)]
 

@@ -61,13 +61,13 @@ pub fn closed<O: Object>(
 }
 
 /// One life of a service of 1 to 8 callers: it starts from a base, the worker does each caller's work on a thread of its own, and it is
-/// closed. What each told, of caller 0 first, and what is left: what the worker says of a telling is so of each caller. `Err` means out of memory,
+/// closed. The output of each, of caller 0 first, and what is left: what the worker says of an output is so of its caller. `Err` means out of memory,
 /// and gives nothing back.
 ///
 /// A life of four callers, and after a crash one of a caller alone. From `crates/shared_bank/src/callers.rt`:
 /// ```rattle
 /// let base = Base::fresh(alloc, &bank)?;
-/// let (answers, remains) = serve(rt, alloc, bank, 4, &base, &Mover { from: 0 })?;
+/// let (counts, remains) = serve(rt, alloc, bank, 4, &base, &Mover { from: 0 })?;
 /// let base = recovered(alloc, &bank, &remains, 0)?;
 /// let (found, _remains) = serve(rt, alloc, bank, 1, &base, &Looker)?;
 /// ```
@@ -78,15 +78,15 @@ pub fn serve<O: Object + Send + Sync, R: Threads + Wait + Sync, W: Worker<O> + S
     callers: u32,
     base: &Base,
     worker: &W,
-) -> Result<(Vec<W::Told>, Remains), AllocError>
+) -> Result<(Vec<W::Output>, Remains), AllocError>
     requires callers { AreFewCallers callers }
     requires may { MayServe O.Object object base.now }
-    ensures told { IfOk result (λ r. length r.0.items ≡ callers) }
+    ensures count { IfOk result (λ r. length r.0.items ≡ callers) }
     ensures served { IfOk result (λ r. IsServiceFrom O.Object object callers base.now r.1) }
     ensures tells { IfOk result (λ r. IsServedBy O.Object object callers base.now (W.tells worker.now) r.1 r.0.items) }
 {
     let (service, callers) = started(alloc, object, callers, base)?;
-    let (handed, told) = work_together(rt, alloc, &service, callers, worker)?;
+    let (handed, outputs) = work_together(rt, alloc, &service, callers, worker)?;
     let remains = closed(alloc, service, handed)?;
-    Ok((told, remains))
+    Ok((outputs, remains))
 }

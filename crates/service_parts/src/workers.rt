@@ -13,28 +13,28 @@ use std::alloc::{AllocError, Global};
 use std::sync::Wait;
 use std::thread::{Threads, map_vec};
 
-/// The result of a worker: the caller that it was lent, in whatever state it is, and what it has to tell.
+/// The result of a worker: the caller that it was lent, in whatever state it is, and its output, which is what it has to tell.
 #[derive(Drop)]
 pub struct Worked<T> {
     pub caller: Handed,
-    pub told: T,
+    pub output: T,
 }
 
 /// What the callers of a service do.
 pub trait Worker<O: Object> {
     /// What each has to tell.
-    type Told: Send + Drop;
+    type Output: Send + Drop;
 
-    /// What is so of a caller of which this is told: of its service, and its seat as it was lent and as it is handed back.
-    ghost tells: { Self → Running O → Seated → Seated → Self.Told → Type 0 };
+    /// What is so of a caller whose worker has this output: of its service, and its seat as it was lent and as it is handed back.
+    ghost tells: { Self → Running O → Seated → Seated → Self.Output → Type 0 };
 
     /// Does it for one caller, and hands that caller back. Each caller's runs on a thread of its own.
-    fn work<R: Wait>(&self, rt: &R, service: &Service<O>, caller: Caller) -> Worked<Self::Told>
+    fn work<R: Wait>(&self, rt: &R, service: &Service<O>, caller: Caller) -> Worked<Self::Output>
         requires { IsCallerOf service.now caller }
-        ensures { IsWorked service.now (tells self.now) caller result.caller result.told };
+        ensures { IsWorked service.now (tells self.now) caller result.caller result.output };
 }
 
-/// Gives each caller to the worker, all at once, and joins them: the callers, and what was told, in order. Where a thread cannot be started
+/// Gives each caller to the worker, all at once, and joins them: the callers, and the outputs, in order. Where a thread cannot be started
 /// the calling thread does its work. `Err` means out of memory, and drops the callers.
 pub fn work_together<O: Object + Send + Sync, R: Threads + Wait + Sync, W: Worker<O> + Sync>(
     rt: &R,
@@ -42,13 +42,13 @@ pub fn work_together<O: Object + Send + Sync, R: Threads + Wait + Sync, W: Worke
     service: &Service<O>,
     callers: Vec<Caller>,
     worker: &W,
-) -> Result<(Vec<Handed>, Vec<W::Told>), AllocError>
+) -> Result<(Vec<Handed>, Vec<W::Output>), AllocError>
     requires { AreAllCallers service.now callers.items }
     ensures { IfOk result (λ r. HaveWorked service.now (W.tells worker.now service.now) callers.items (seats_of r.0.items) r.1.items) }
 {
     let all = all_work(rt, service, callers, worker)?;
-    let (handed, told) = parted(alloc, all)?;
-    Ok((handed, told))
+    let (handed, outputs) = parted(alloc, all)?;
+    Ok((handed, outputs))
 }
 
 /// The results of the workers.
@@ -57,9 +57,9 @@ fn all_work<O: Object + Send + Sync, R: Threads + Wait + Sync, W: Worker<O> + Sy
     service: &Service<O>,
     callers: Vec<Caller>,
     worker: &W,
-) -> Result<Vec<Worked<W::Told>>, AllocError>
+) -> Result<Vec<Worked<W::Output>>, AllocError>
     requires { AreAllCallers service.now callers.items }
-    ensures { IfOk result (λ v. HaveWorked service.now (W.tells worker.now service.now) callers.items (seats_of (map (λ w. w.caller) v.items)) (map (λ w. w.told) v.items)) }
+    ensures { IfOk result (λ v. HaveWorked service.now (W.tells worker.now service.now) callers.items (seats_of (map (λ w. w.caller) v.items)) (map (λ w. w.output) v.items)) }
 {
     let all = each_works(rt, service, callers, worker)?;
     Ok(all)
@@ -71,32 +71,32 @@ fn each_works<O: Object + Send + Sync, R: Threads + Wait + Sync, W: Worker<O> + 
     service: &Service<O>,
     callers: Vec<Caller>,
     worker: &W,
-) -> Result<Vec<Worked<W::Told>>, AllocError>
+) -> Result<Vec<Worked<W::Output>>, AllocError>
     requires { AreAllCallers service.now callers.items }
     ensures long { IfOk result (λ v. vec_len v ≡ vec_len callers) }
-    ensures each { IfOk result (λ v. (i : ℕ) (d : _) (e : _) → i < vec_len callers → IsWorked service.now (W.tells worker.now) (slice_index_or callers.items i d) (slice_index_or v.items i e).caller (slice_index_or v.items i e).told) }
+    ensures each { IfOk result (λ v. (i : ℕ) (d : _) (e : _) → i < vec_len callers → IsWorked service.now (W.tells worker.now) (slice_index_or callers.items i d) (slice_index_or v.items i e).caller (slice_index_or v.items i e).output) }
 {
     map_vec(
         rt,
         callers,
-        &|caller: Caller| -> Worked<W::Told>
+        &|caller: Caller| -> Worked<W::Output>
             requires { IsCallerOf service.now caller }
-            ensures { IsWorked service.entry.now (W.tells worker.entry.now) caller result.caller result.told }
+            ensures { IsWorked service.entry.now (W.tells worker.entry.now) caller result.caller result.output }
         { worker.work(rt, service, caller) },
     )
 }
 
-/// The callers and what was told, taken apart.
+/// The callers and the outputs, taken apart.
 fn parted<T: Drop>(alloc: Global, all: Vec<Worked<T>>) -> Result<(Vec<Handed>, Vec<T>), AllocError>
     ensures callers { IfOk result (λ r. r.0.items ≡ map (λ w. w.caller) all.items) }
-    ensures told { IfOk result (λ r. r.1.items ≡ map (λ w. w.told) all.items) }
+    ensures outputs { IfOk result (λ r. r.1.items ≡ map (λ w. w.output) all.items) }
 {
     let mut callers = Vec::new(alloc);
-    let mut tellings = Vec::new(alloc);
+    let mut outputs = Vec::new(alloc);
     for worked in all {
-        let Worked { caller, told } = worked;
+        let Worked { caller, output } = worked;
         callers.push(caller)?;
-        tellings.push(told)?;
+        outputs.push(output)?;
     }
-    Ok((callers, tellings))
+    Ok((callers, outputs))
 }

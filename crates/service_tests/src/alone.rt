@@ -3,7 +3,7 @@
 ghost use Rattle.std.specs.Prelude.{◌≡◌, ◌*◌, ◌<◌, IfOk, IsTrue, OnOk};
 ghost use Rattle.cx_base.specs.Memory.{Always};
 
-use crate::calls::Told;
+use crate::calls::Call;
 use crate::tasks::Work;
 use cx_base::{Halt, Memory, Object, VecMemory, root_replica};
 use cx_core::{HEAD_LINES, LINE_WORDS, OBJECT_START, slot_start};
@@ -25,7 +25,7 @@ pub(crate) fn made_alone<O: Object>(
     alloc: Global,
     object: &O,
     work: Work,
-    logs: &[Vec<Told>],
+    logs: &[Vec<Call>],
 ) -> Result<Option<Alone>, AllocError> {
     let Some(count) = object.lines().checked_mul(8) else {
         return Err(AllocError);
@@ -43,7 +43,7 @@ pub(crate) fn made_alone<O: Object>(
 
 impl Alone {
     /// Whether the region that a closed service published last is this one: its place, each caller's slot and the object part.
-    pub(crate) fn is_left(&self, remains: &Remains, logs: &[Vec<Told>]) -> bool {
+    pub(crate) fn is_left(&self, remains: &Remains, logs: &[Vec<Call>]) -> bool {
         match last_region(remains) {
             Some(region) => self.is_region(region, logs),
             None => false,
@@ -51,7 +51,7 @@ impl Alone {
     }
 
     /// Whether this is a region: its place, each caller's slot and the object part.
-    pub(crate) fn is_region(&self, region: &[u64], logs: &[Vec<Told>]) -> bool {
+    pub(crate) fn is_region(&self, region: &[u64], logs: &[Vec<Call>]) -> bool {
         self.is_of(region) && are_slots(region, logs)
     }
 
@@ -66,7 +66,7 @@ impl Alone {
 }
 
 // Whether the slots of a region are those of these callers.
-fn are_slots(region: &[u64], logs: &[Vec<Told>]) -> bool {
+fn are_slots(region: &[u64], logs: &[Vec<Call>]) -> bool {
     for caller in 0..8u32 {
         let log = match logs.get(caller as usize) {
             Some(log) => log.as_slice(),
@@ -96,7 +96,7 @@ pub(crate) fn last_region(remains: &Remains) -> Option<&[u64]> {
 }
 
 // Whether the slot of a caller has the number of its updates and the reply to the last of them.
-fn is_slot(region: &[u64], caller: u32, log: &[Told]) -> bool
+fn is_slot(region: &[u64], caller: u32, log: &[Call]) -> bool
     requires { caller < 8 }
 {
     let at = slot_start(caller) as usize;
@@ -108,13 +108,13 @@ fn is_slot(region: &[u64], caller: u32, log: &[Told]) -> bool
 }
 
 // How many updates a caller made, and the reply to the last of them, which is 0 where there is none.
-fn last_update(log: &[Told]) -> (u64, [u64; 144]) {
+fn last_update(log: &[Call]) -> (u64, [u64; 144]) {
     let mut updates = 0u64;
     let mut reply = [0; 144];
-    for told in log {
-        if !told.is_beside() {
+    for call in log {
+        if !call.is_beside() {
             updates = updates.wrapping_add(1);
-            reply = told.reply;
+            reply = call.reply;
         }
     }
     (updates, reply)
@@ -125,7 +125,7 @@ fn replies_from_opening<O: Object, M: Memory>(
     object: &O,
     mem: &mut M,
     work: Work,
-    logs: &[Vec<Told>],
+    logs: &[Vec<Call>],
     done: &mut [usize],
 ) -> Result<Option<u64>, Halt>
     requires size { M.size mem.old ≡ 8 * O.line_count object.now }
@@ -163,7 +163,7 @@ fn replied<O: Object, M: Memory>(
 }
 
 // The first caller whose next call is answered at this place, a read beside the queue or an update.
-fn caller_at(logs: &[Vec<Told>], done: &[usize], place: u64, beside: bool) -> Option<usize> {
+fn caller_at(logs: &[Vec<Call>], done: &[usize], place: u64, beside: bool) -> Option<usize> {
     for (caller, log) in logs.iter().enumerate() {
         let k = *done.get(caller)?;
         if is_next(log, k, place, beside) {
@@ -174,16 +174,16 @@ fn caller_at(logs: &[Vec<Told>], done: &[usize], place: u64, beside: bool) -> Op
 }
 
 // Whether a caller's call of this number is answered so.
-fn is_next(log: &[Told], k: usize, place: u64, beside: bool) -> bool {
+fn is_next(log: &[Call], k: usize, place: u64, beside: bool) -> bool {
     match log.get(k) {
-        Some(told) if beside => told.is_read(place),
-        Some(told) => told.is_updated(place),
+        Some(call) if beside => call.is_read(place),
+        Some(call) => call.is_updated(place),
         None => false,
     }
 }
 
 // A call that comes next, with its caller and its number among the caller's: one at this place, a read before an update.
-fn next_of(logs: &[Vec<Told>], done: &[usize], place: u64) -> Option<(usize, usize)> {
+fn next_of(logs: &[Vec<Call>], done: &[usize], place: u64) -> Option<(usize, usize)> {
     let caller = match caller_at(logs, done, place, true) {
         Some(caller) => caller,
         None => caller_at(logs, done, place, false)?,
@@ -192,13 +192,13 @@ fn next_of(logs: &[Vec<Told>], done: &[usize], place: u64) -> Option<(usize, usi
 }
 
 // What a caller was told of its call of this number.
-fn told_of(logs: &[Vec<Told>], caller: usize, k: usize) -> Option<&Told> {
+fn call_of(logs: &[Vec<Call>], caller: usize, k: usize) -> Option<&Call> {
     logs.get(caller)?.get(k)
 }
 
 // The place after a call at a place.
-fn place_after(told: &Told, place: u64) -> u64 {
-    if told.is_beside() {
+fn place_after(call: &Call, place: u64) -> u64 {
+    if call.is_beside() {
         place
     } else {
         place.wrapping_add(1)
@@ -213,7 +213,7 @@ fn count_call(done: &mut [usize], caller: usize) {
 }
 
 // The number of all calls.
-fn calls_in(logs: &[Vec<Told>]) -> usize {
+fn calls_in(logs: &[Vec<Call>]) -> usize {
     let mut count = 0usize;
     for log in logs {
         count = count.saturating_add(log.len());
@@ -226,7 +226,7 @@ fn replies_in_order<O: Object, M: Memory>(
     object: &O,
     mem: &mut M,
     work: Work,
-    logs: &[Vec<Told>],
+    logs: &[Vec<Call>],
     done: &mut [usize],
 ) -> Result<Option<u64>, Halt>
     requires size { M.size mem.old ≡ 8 * O.line_count object.now }
@@ -239,8 +239,8 @@ fn replies_in_order<O: Object, M: Memory>(
             return Ok(None);
         };
         let reply = replied(object, mem, &work.task(caller as u64, k as u64))?;
-        match told_of(logs, caller, k) {
-            Some(told) if told.reply == reply => place = place_after(told, place),
+        match call_of(logs, caller, k) {
+            Some(call) if call.reply == reply => place = place_after(call, place),
             _ => return Ok(None),
         }
         count_call(done, caller);

@@ -32,15 +32,15 @@ pub(crate) enum Came {
     Halted(Option<u64>),
 }
 
-/// What a caller is told of a call, its steps then, and the reply, which is 0 where there is none.
+/// A call as its caller saw it end: how it came out, the steps of the caller then, and the reply, which is 0 where there is none.
 #[derive(Clone, Copy)]
-pub(crate) struct Told {
+pub(crate) struct Call {
     pub(crate) came: Came,
     pub(crate) steps: u64,
     pub(crate) reply: [u64; 144],
 }
 
-impl Told {
+impl Call {
     /// Whether the call is answered.
     pub(crate) fn is_answered(&self) -> bool {
         match self.came {
@@ -98,19 +98,19 @@ impl Told {
     }
 }
 
-// What is told without a reply.
-fn noted(came: Came, steps: u64) -> Told {
-    Told {
+// A call without a reply.
+fn noted(came: Came, steps: u64) -> Call {
+    Call {
         came,
         steps,
         reply: [0; 144],
     }
 }
 
-// What is told with a reply.
-fn replied(came: Came, steps: u64, reply: &[u64; 144]) -> Told {
+// A call with a reply.
+fn replied(came: Came, steps: u64, reply: &[u64; 144]) -> Call {
     let reply = *reply;
-    Told { came, steps, reply }
+    Call { came, steps, reply }
 }
 
 /// How a call is made.
@@ -172,58 +172,58 @@ fn submitted<O: Object>(
     caller: Caller,
     op: &[u64; 144],
     twice: bool,
-) -> (Handed, Told)
+) -> (Handed, Call)
     requires { IsCallerOf service.now caller }
     ensures { IsBack service.now caller result.0 }
 {
     match service.submit(caller, op, tries(twice)) {
         Submitted::Linked(linked) => {
-            let told = noted(Came::Linked(linked.ticket()), linked.steps());
-            (Handed::Linked(linked), told)
+            let call = noted(Came::Linked(linked.ticket()), linked.steps());
+            (Handed::Linked(linked), call)
         }
         Submitted::Again(caller) => {
-            let told = noted(Came::Again, caller.steps());
-            (Handed::Idle(caller), told)
+            let call = noted(Came::Again, caller.steps());
+            (Handed::Idle(caller), call)
         }
         Submitted::Full(caller, note) => {
-            let told = noted(Came::Full(note), caller.steps());
-            (Handed::Idle(caller), told)
+            let call = noted(Came::Full(note), caller.steps());
+            (Handed::Idle(caller), call)
         }
         Submitted::Worn(caller) => {
-            let told = noted(Came::Worn(caller.front()), caller.steps());
-            (Handed::Idle(caller), told)
+            let call = noted(Came::Worn(caller.front()), caller.steps());
+            (Handed::Idle(caller), call)
         }
         Submitted::Halted(stopped) => {
-            let told = noted(Came::Halted(stopped.linked()), stopped.steps());
-            (Handed::Stopped(stopped), told)
+            let call = noted(Came::Halted(stopped.linked()), stopped.steps());
+            (Handed::Stopped(stopped), call)
         }
     }
 }
 
 // A turn that drives.
-fn driven<O: Object>(service: &Service<O>, linked: Linked) -> (Handed, Told)
+fn driven<O: Object>(service: &Service<O>, linked: Linked) -> (Handed, Call)
     requires { IsLinkedOf service.now linked }
     ensures { IsBack service.now linked result.0 }
 {
     let mut reply = [0; 144];
     match service.drive(linked, &mut reply, 1) {
         Driven::Pending(linked) => {
-            let told = noted(Came::Pending, linked.steps());
-            (Handed::Linked(linked), told)
+            let call = noted(Came::Pending, linked.steps());
+            (Handed::Linked(linked), call)
         }
         Driven::Done(caller, ticket) => {
-            let told = replied(Came::Updated(ticket), caller.steps(), &reply);
-            (Handed::Idle(caller), told)
+            let call = replied(Came::Updated(ticket), caller.steps(), &reply);
+            (Handed::Idle(caller), call)
         }
         Driven::Halted(stopped) => {
-            let told = noted(Came::Halted(stopped.linked()), stopped.steps());
-            (Handed::Stopped(stopped), told)
+            let call = noted(Came::Halted(stopped.linked()), stopped.steps());
+            (Handed::Stopped(stopped), call)
         }
     }
 }
 
 // A turn that reads beside the queue.
-fn looked<O: Object>(service: &Service<O>, caller: Caller, op: &[u64; 144]) -> (Handed, Told)
+fn looked<O: Object>(service: &Service<O>, caller: Caller, op: &[u64; 144]) -> (Handed, Call)
     requires caller { IsCallerOf service.now caller }
     requires reads { IsTrue (O.only_reads service.now.object op.now) }
     ensures { IsBack service.now caller result.0 }
@@ -231,16 +231,16 @@ fn looked<O: Object>(service: &Service<O>, caller: Caller, op: &[u64; 144]) -> (
     let mut reply = [0; 144];
     match service.try_read(caller, op, &mut reply, 1) {
         ReadTried::Pending(caller) => {
-            let told = noted(Came::Pending, caller.steps());
-            (Handed::Idle(caller), told)
+            let call = noted(Came::Pending, caller.steps());
+            (Handed::Idle(caller), call)
         }
         ReadTried::Read(caller, place) => {
-            let told = replied(Came::Read(place), caller.steps(), &reply);
-            (Handed::Idle(caller), told)
+            let call = replied(Came::Read(place), caller.steps(), &reply);
+            (Handed::Idle(caller), call)
         }
         ReadTried::Halted(stopped) => {
-            let told = noted(Came::Halted(stopped.linked()), stopped.steps());
-            (Handed::Stopped(stopped), told)
+            let call = noted(Came::Halted(stopped.linked()), stopped.steps());
+            (Handed::Stopped(stopped), call)
         }
     }
 }
@@ -251,7 +251,7 @@ fn begun<O: Object>(
     caller: Caller,
     op: &[u64; 144],
     way: Way,
-) -> (Handed, Told)
+) -> (Handed, Call)
     requires { IsCallerOf service.now caller }
     ensures { IsBack service.now caller result.0 }
 {
@@ -268,7 +268,7 @@ fn turned<O: Object>(
     handed: Handed,
     op: &[u64; 144],
     way: Way,
-) -> (Handed, Told)
+) -> (Handed, Call)
     requires { IsOf service.now handed }
     ensures { IsBack service.now (seat_of handed) result.0 }
 {
@@ -276,8 +276,8 @@ fn turned<O: Object>(
         Handed::Idle(caller) => begun(service, caller, op, way),
         Handed::Linked(linked) => driven(service, linked),
         Handed::Stopped(stopped) => {
-            let told = noted(Came::Halted(stopped.linked()), stopped.steps());
-            (Handed::Stopped(stopped), told)
+            let call = noted(Came::Halted(stopped.linked()), stopped.steps());
+            (Handed::Stopped(stopped), call)
         }
     }
 }
@@ -288,7 +288,7 @@ pub(crate) fn asked<O: Object>(
     handed: Handed,
     op: &[u64; 144],
     way: Way,
-) -> (Handed, Told)
+) -> (Handed, Call)
     requires { IsOf service.now handed }
     ensures { IsBack service.now (seat_of handed) result.0 }
 {
@@ -324,7 +324,7 @@ pub(crate) fn all_asked<O: Object>(
     handed: Handed,
     work: Work,
     way: Way,
-    log: &mut Vec<Told>,
+    log: &mut Vec<Call>,
 ) -> Handed
     requires { IsOf service.now handed }
     ensures { IsBack service.now (seat_of handed) result }
@@ -340,7 +340,7 @@ pub(crate) fn asked_between<O: Object>(
     work: Work,
     ends: (u64, u64),
     way: Way,
-    log: &mut Vec<Told>,
+    log: &mut Vec<Call>,
 ) -> Handed
     requires { IsOf service.now handed }
     ensures { IsBack service.now (seat_of handed) result }
@@ -349,9 +349,9 @@ pub(crate) fn asked_between<O: Object>(
     let number = u64::from(number_of(&handed));
     for k in ends.0..ends.1 {
         let ready = waited(service, handed, work.waits_for(number, k));
-        let (back, told) = asked(service, ready, &work.task(number, k), way);
+        let (back, call) = asked(service, ready, &work.task(number, k), way);
         handed = back;
-        if log.push(told).is_err() || !told.is_answered() {
+        if log.push(call).is_err() || !call.is_answered() {
             break;
         }
     }

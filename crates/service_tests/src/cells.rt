@@ -1,6 +1,6 @@
 //! Cells are given again, or kept by a caller that is stopped.
 
-use crate::calls::{Came, SUBMIT_TWICE, Told, UPDATE, UPDATE_TWICE};
+use crate::calls::{Call, Came, SUBMIT_TWICE, UPDATE, UPDATE_TWICE};
 use crate::holds::holds;
 use crate::starts::NO_LIMIT;
 use crate::sum_calls::{Part, played};
@@ -45,9 +45,9 @@ pub(crate) const KEPT: FullNote = FullNote {
 };
 
 // Whether all are told that their updates are answered.
-fn are_answered(log: &[Told]) -> bool {
-    for told in log {
-        if !told.is_answered() {
+fn are_answered(log: &[Call]) -> bool {
+    for call in log {
+        if !call.is_answered() {
             return false;
         }
     }
@@ -56,7 +56,7 @@ fn are_answered(log: &[Told]) -> bool {
 
 // Whether caller 0 was told of the last update that caller 1 keeps its cells, and not that it is linked. `None`: it was told something
 // else, or an earlier update was not answered, or caller 1 keeps cells and was not stopped.
-fn is_full(log: &[Told]) -> Option<bool> {
+fn is_full(log: &[Call]) -> Option<bool> {
     let (first, rest) = log.split_first()?;
     let (last, sixteen) = rest.split_last()?;
     if sixteen.len() != 16 || !are_answered(sixteen) {
@@ -70,8 +70,8 @@ fn is_full(log: &[Told]) -> Option<bool> {
 }
 
 // Whether a caller was stopped by its limit.
-fn is_stopped(told: &Told) -> bool {
-    match told.came {
+fn is_stopped(call: &Call) -> bool {
+    match call.came {
         Came::Halted(_) => true,
         _ => false,
     }

@@ -2,7 +2,7 @@
 //! lines that changed, or whole.
 
 use crate::alone::{last_region, made_alone};
-use crate::calls::Told;
+use crate::calls::Call;
 use crate::holds::holds;
 use crate::pairs::{Ended, Turn, run_pair};
 use crate::starts::NO_LIMIT;
@@ -100,7 +100,7 @@ const ROWS: [Row; 7] = [
 ];
 
 // The steps of the last call of a caller.
-fn last_steps(log: &[Told]) -> u64 {
+fn last_steps(log: &[Call]) -> u64 {
     match log {
         [.., before, last] => last.steps.saturating_sub(before.steps),
         _ => 0,

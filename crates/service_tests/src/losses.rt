@@ -5,7 +5,7 @@ ghost use Rattle.cx_base.specs.Tally.{IsTally};
 ghost use Rattle.cx_core.specs.Base.{LawfulBase};
 ghost use Rattle.service_tests.specs.Closed.{IsClosedTally};
 
-use crate::calls::{Told, UPDATE};
+use crate::calls::{Call, UPDATE};
 use crate::closed::{left, recovered};
 use crate::holds::holds;
 use crate::starts::NO_LIMIT;
@@ -40,9 +40,9 @@ const PARTS: [Part; 2] = [
 ];
 
 // Whether caller 0 was answered, the last.
-fn is_answered(log: &[Told]) -> bool {
+fn is_answered(log: &[Call]) -> bool {
     match log.last() {
-        Some(told) => told.is_answered(),
+        Some(call) => call.is_answered(),
         None => false,
     }
 }
@@ -275,7 +275,7 @@ fn goes_on(alloc: Global, base: &Base) -> Result<bool, AllocError>
 {
     let played = played_from(alloc, base, &[NO_LIMIT, NO_LIMIT], &NEXT)?;
     Ok(match played.log.first() {
-        Some(told) => told.is_updated(base.place),
+        Some(call) => call.is_updated(base.place),
         None => false,
     })
 }

@@ -8,7 +8,7 @@ ghost use Rattle.recovery.specs.Kept.{IsOpened};
 ghost use Rattle.service_tests.specs.Closed.{IsClosed};
 ghost use Rattle.service_tests.specs.Tests.{IsBack, IsOf};
 
-use crate::calls::{Told, UPDATE_TWICE, asked_between};
+use crate::calls::{Call, UPDATE_TWICE, asked_between};
 use crate::starts::{NO_LIMIT, two};
 use crate::sum_calls::Pair;
 use crate::tasks::Work;
@@ -24,7 +24,7 @@ pub(crate) type Turn = (u32, u64);
 /// What two callers were told, of caller 0 first, and what their service left when it was closed.
 #[derive(Drop)]
 pub(crate) struct Ended {
-    pub(crate) logs: Vec<Vec<Told>>,
+    pub(crate) logs: Vec<Vec<Call>>,
     pub(crate) remains: Remains,
 }
 
@@ -74,8 +74,8 @@ fn attempt_made<O: Object>(
     pair: Pair,
     work: Work,
     turn: &Turn,
-    one: &mut Vec<Told>,
-    other: &mut Vec<Told>,
+    one: &mut Vec<Call>,
+    other: &mut Vec<Call>,
 ) -> Pair
     requires first { IsOf service.now pair.first }
     requires second { IsOf service.now pair.second }
@@ -101,8 +101,8 @@ fn turns_made<O: Object>(
     pair: Pair,
     work: Work,
     turns: &[Turn],
-    one: &mut Vec<Told>,
-    other: &mut Vec<Told>,
+    one: &mut Vec<Call>,
+    other: &mut Vec<Call>,
 ) -> Pair
     requires first { IsOf service.now pair.first }
     requires second { IsOf service.now pair.second }

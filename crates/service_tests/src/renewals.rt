@@ -5,7 +5,7 @@ ghost use Rattle.std.specs.Prelude.{◌≤◌};
 ghost use Rattle.service_tests.specs.Closed.{IsClosed};
 
 use crate::alone::{Alone, made_alone};
-use crate::calls::{Came, Told};
+use crate::calls::{Call, Came};
 use crate::closed::recovered_of;
 use crate::holds::holds;
 use crate::listed_lines::LINES;
@@ -42,7 +42,7 @@ const SLOT: u64 = 16;
 // What two callers without a limit are told, and the object alone.
 #[derive(Drop)]
 struct Model {
-    logs: Vec<Vec<Told>>,
+    logs: Vec<Vec<Call>>,
     alone: Alone,
 }
 
@@ -74,7 +74,7 @@ fn make_both(alloc: Global, none: &[Turn], linked: &[Turn]) -> Result<Option<Mod
 }
 
 // Caller 1's steps before its second update and after it.
-fn ends_of(logs: &[Vec<Told>]) -> Option<(u64, u64)> {
+fn ends_of(logs: &[Vec<Call>]) -> Option<(u64, u64)> {
     match logs.last()?.as_slice() {
         [first, second] => Some((first.steps, second.steps)),
         _ => None,
@@ -94,7 +94,7 @@ fn ends(alloc: Global) -> Result<Option<(u64, u64)>, AllocError> {
 }
 
 // The model of what caller 1 was told of its last call, which stopped at a limit or was answered.
-fn model_of<'a>(models: &'a Models, last: &Told, limit: u64, after: u64) -> Option<&'a Model> {
+fn model_of<'a>(models: &'a Models, last: &Call, limit: u64, after: u64) -> Option<&'a Model> {
     match last.came {
         Came::Halted(None) if last.steps == limit => Some(&models.none),
         Came::Halted(Some(_)) if last.steps == limit => Some(&models.linked),
@@ -104,13 +104,13 @@ fn model_of<'a>(models: &'a Models, last: &Told, limit: u64, after: u64) -> Opti
 }
 
 // Whether updates are answered as others are.
-fn are_answered_as(log: &[Told], want: &[Told]) -> bool {
+fn are_answered_as(log: &[Call], want: &[Call]) -> bool {
     if log.len() != want.len() {
         return false;
     }
-    for (told, other) in log.iter().zip(want.iter()) {
+    for (call, other) in log.iter().zip(want.iter()) {
         match other.came {
-            Came::Updated(ticket) if told.is_updated(ticket) && told.reply == other.reply => {}
+            Came::Updated(ticket) if call.is_updated(ticket) && call.reply == other.reply => {}
             _ => return false,
         }
     }
@@ -203,7 +203,7 @@ fn dirty_at(alloc: Global, models: &Models, limit: u64) -> Result<Option<bool>, 
 }
 
 // What caller 1 was told of its last call.
-fn last_of(logs: &[Vec<Told>]) -> Option<&Told> {
+fn last_of(logs: &[Vec<Call>]) -> Option<&Call> {
     logs.last()?.last()
 }
 

@@ -127,12 +127,12 @@ fn alone(alloc: Global, count: u64, into: &mut [u64; 144]) -> Result<bool, Alloc
 fn is_right(alloc: Global, lines: u64, count: u64, is_whole: bool) -> Result<bool, AllocError>
     requires { 64 ≤ lines × lines ≤ 16384 }
 {
-    let mut told = [0; 144];
+    let mut reply = [0; 144];
     let mut right = [0; 144];
-    let steps = behind(alloc, lines, count, &mut told)?;
+    let steps = behind(alloc, lines, count, &mut reply)?;
     let is_answered = alone(alloc, count, &mut right)?;
     Ok(match steps {
-        Some(steps) => is_answered && told == right && (steps >= WHOLE) == is_whole,
+        Some(steps) => is_answered && reply == right && (steps >= WHOLE) == is_whole,
         None => false,
     })
 }

@@ -1,6 +1,6 @@
 //! Worked rows: a reader that stops, callers alone up to the end of tickets, and services that do not start.
 
-use crate::calls::{Came, READ, SUBMIT, Told, UPDATE, Way};
+use crate::calls::{Call, Came, READ, SUBMIT, UPDATE, Way};
 use crate::holds::holds;
 use crate::starts::{NO_LIMIT, all_started};
 use crate::sum_calls::{Part, adds_up, played, played_alone};
@@ -25,7 +25,7 @@ const READER: [Part; 2] = [
 ];
 
 // Whether a reader is stopped after two steps, and the other caller answered in one turn.
-fn is_reader_stopped(log: &[Told]) -> bool {
+fn is_reader_stopped(log: &[Call]) -> bool {
     match log {
         [reader, other] => {
             reader.is_halted(None)
@@ -79,7 +79,7 @@ const ALONE: [(u64, Work, Way, Want); 3] = [
     ),
 ];
 
-fn is_told(log: &[Told], want: Want) -> bool {
+fn is_as_wanted(log: &[Call], want: Want) -> bool {
     match want {
         Want::Sums(amount, count) => log.len() == count && adds_up(log, 0, 0, amount),
         Want::Answers(count) => log.len() == count && are_in_order(log),
@@ -88,10 +88,10 @@ fn is_told(log: &[Told], want: Want) -> bool {
 }
 
 // Whether updates are answered at the tickets from 0 on.
-fn are_in_order(log: &[Told]) -> bool {
+fn are_in_order(log: &[Call]) -> bool {
     let mut ticket = 0u64;
-    for told in log {
-        if !told.is_updated(ticket) {
+    for call in log {
+        if !call.is_updated(ticket) {
             return false;
         }
         ticket = ticket.wrapping_add(1);
@@ -100,9 +100,9 @@ fn are_in_order(log: &[Told]) -> bool {
 }
 
 // Whether the only call found no further ticket.
-fn is_worn(log: &[Told], front: u64) -> bool {
+fn is_worn(log: &[Call], front: u64) -> bool {
     match log {
-        [told] => match told.came {
+        [call] => match call.came {
             Came::Worn(at) => at == front,
             _ => false,
         },
@@ -110,13 +110,13 @@ fn is_worn(log: &[Told], front: u64) -> bool {
     }
 }
 
-// The first caller alone that is told otherwise.
+// The first caller alone that is answered otherwise.
 fn first_wrong(
     alloc: Global,
     rows: &[(u64, Work, Way, Want)],
 ) -> Result<Option<usize>, AllocError> {
     for (i, (place, work, way, want)) in rows.iter().enumerate() {
-        if !is_told(&played_alone(alloc, *place, *work, *way)?, *want) {
+        if !is_as_wanted(&played_alone(alloc, *place, *work, *way)?, *want) {
             return Ok(Some(i));
         }
     }

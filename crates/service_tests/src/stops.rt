@@ -1,6 +1,6 @@
 //! A caller stops at each of its steps, and another goes on.
 
-use crate::calls::{Came, READ, Told, UPDATE, Way};
+use crate::calls::{Call, Came, READ, UPDATE, Way};
 use crate::holds::holds;
 use crate::starts::{NO_LIMIT, has_rising_codes};
 use crate::sum_calls::{Part, adds_up, played};
@@ -53,7 +53,7 @@ const ROWS: [Row; 2] = [
 ];
 
 // Whether each update of the other is answered, at the tickets after `linked` entries that add 1000, and the published codes rise.
-fn goes_on(others: &[Told], remains: &Remains, linked: u64) -> bool {
+fn goes_on(others: &[Call], remains: &Remains, linked: u64) -> bool {
     others.len() == 16
         && adds_up(others, linked, linked.wrapping_mul(1000), 1)
         && has_rising_codes(remains)
@@ -113,7 +113,7 @@ fn left_at(alloc: Global, limit: u64) -> Result<Option<Left>, AllocError> {
     let played = played(alloc, 0, &[limit, NO_LIMIT], &UPDATE_ALONE)?;
     let durable = durable_place(&played.remains);
     Ok(match played.log.as_slice() {
-        [told] => match told.came {
+        [call] => match call.came {
             Came::Updated(_) => Some(Left::Answered),
             Came::Halted(linked) => Some(Left::Stopped { linked, durable }),
             _ => None,

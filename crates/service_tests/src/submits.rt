@@ -2,7 +2,7 @@
 
 ghost use Rattle.cx_service.specs.Callers.{IsCallerOf};
 
-use crate::calls::{Came, SUBMIT, SUBMIT_TWICE, Told, UPDATE, asked};
+use crate::calls::{Call, Came, SUBMIT, SUBMIT_TWICE, UPDATE, asked};
 use crate::cells::KEPT;
 use crate::holds::holds;
 use crate::starts::{NO_LIMIT, base_at, two_closed, two_started};
@@ -21,8 +21,8 @@ use std::thread::{Threads, join};
 const STEPS_TO_LINK: u64 = 148;
 
 // Whether an entry is linked at this ticket.
-fn is_linked(told: &Told, ticket: u64) -> bool {
-    match told.came {
+fn is_linked(call: &Call, ticket: u64) -> bool {
+    match call.came {
         Came::Linked(at) => at == ticket,
         _ => false,
     }
@@ -36,7 +36,7 @@ const IN_ORDER: [Part; 3] = [
 ];
 
 // Whether two callers linked so, the first by `STEPS_TO_LINK` steps: later the words stand, and the number alone is written.
-fn are_linked(log: &[Told]) -> bool {
+fn are_linked(log: &[Call]) -> bool {
     match log {
         [one, again, other] => {
             is_linked(one, 0)
@@ -62,7 +62,7 @@ fn two_callers_link_one_after_the_other(rt: HostRuntime) -> Result<(), Fail> {
 }
 
 // What two callers are told that submit on threads of their own.
-fn on_two_threads<R: Threads + Sync>(rt: &R, alloc: Global) -> Result<(Told, Told), AllocError> {
+fn on_two_threads<R: Threads + Sync>(rt: &R, alloc: Global) -> Result<(Call, Call), AllocError> {
     let base = base_at(alloc, 0)?;
     let (service, first, second) = two_started(alloc, &[NO_LIMIT, NO_LIMIT], &base)?;
     let shared = &service;
@@ -87,10 +87,10 @@ fn two_threads_submit(rt: HostRuntime) -> Result<(), Fail> {
 const ONE: [Part; 1] = [(0, Work::Filled(5), SUBMIT_TWICE)];
 
 // Whether a caller with a limit of steps is halted, or links with that limit or a greater one.
-fn is_halted_or_linked(log: &[Told], limit: u64) -> bool {
+fn is_halted_or_linked(log: &[Call], limit: u64) -> bool {
     match log {
-        [told] if limit < STEPS_TO_LINK => told.is_halted(None) && told.steps == limit,
-        [told] => is_linked(told, 0) && told.steps == STEPS_TO_LINK,
+        [call] if limit < STEPS_TO_LINK => call.is_halted(None) && call.steps == limit,
+        [call] => is_linked(call, 0) && call.steps == STEPS_TO_LINK,
         _ => false,
     }
 }
@@ -118,7 +118,7 @@ const AT_THE_END: [Part; 2] = [
 ];
 
 // Whether the last ticket is the first caller's.
-fn is_last_ticket_taken(log: &[Told]) -> bool {
+fn is_last_ticket_taken(log: &[Call]) -> bool {
     match log {
         [one, other] => is_linked(one, (1 << 40) - 1) && matches!(other.came, Came::Worn(_)),
         _ => false,
@@ -163,11 +163,11 @@ fn with_limit<R: Wait>(
     rt: &R,
     alloc: Global,
     limit: u64,
-) -> Result<(Told, Option<FullNote>), AllocError> {
+) -> Result<(Call, Option<FullNote>), AllocError> {
     let base = base_at(alloc, 0)?;
     let (service, first, second) = two_started(alloc, &[NO_LIMIT, limit], &base)?;
-    let (_, told) = asked(&service, Handed::Idle(second), &[7; 144], UPDATE);
-    Ok((told, note_within(rt, &service, first, 40)))
+    let (_, call) = asked(&service, Handed::Idle(second), &[7; 144], UPDATE);
+    Ok((call, note_within(rt, &service, first, 40)))
 }
 
 // How many of the limits from the link on, by some of which it is stopped while it reads its entry, let caller 1 keep the cells of
@@ -175,8 +175,8 @@ fn with_limit<R: Wait>(
 fn kept_at<R: Wait>(rt: &R, alloc: Global) -> Result<Option<u64>, AllocError> {
     let mut kept = 0u64;
     for limit in 148..168u64 {
-        let (told, note) = with_limit(rt, alloc, limit)?;
-        if !matches!(told.came, Came::Halted(_)) {
+        let (call, note) = with_limit(rt, alloc, limit)?;
+        if !matches!(call.came, Came::Halted(_)) {
             return Ok(None);
         }
         match note {

@@ -7,7 +7,7 @@ ghost use Rattle.cx_service.specs.Closes.{seat_of};
 ghost use Rattle.service_tests.specs.Closed.{IsClosedTally};
 ghost use Rattle.service_tests.specs.Tests.{IsBack, IsOf};
 
-use crate::calls::{Told, Way, all_asked};
+use crate::calls::{Call, Way, all_asked};
 use crate::starts::{base_at, one_started, two_closed, two_started};
 use crate::tasks::{Work, adds};
 use cx_base::tally::Tally;
@@ -22,7 +22,7 @@ pub(crate) type Part = (u32, Work, Way);
 /// What callers were told, in the order of their calls, and what their service left when it was closed.
 #[derive(Drop)]
 pub(crate) struct Outcome {
-    pub(crate) log: Vec<Told>,
+    pub(crate) log: Vec<Call>,
     pub(crate) remains: Remains,
 }
 
@@ -70,7 +70,7 @@ pub(crate) struct Pair {
 }
 
 // One of two callers asks for its operations.
-fn part_asked(service: &Service<Tally>, pair: Pair, part: &Part, log: &mut Vec<Told>) -> Pair
+fn part_asked(service: &Service<Tally>, pair: Pair, part: &Part, log: &mut Vec<Call>) -> Pair
     requires first { IsOf service.now pair.first }
     requires second { IsOf service.now pair.second }
     ensures first { IsBack service.now (seat_of pair.first) result.first }
@@ -88,7 +88,7 @@ fn part_asked(service: &Service<Tally>, pair: Pair, part: &Part, log: &mut Vec<T
 }
 
 // The parts of two callers, one after another.
-fn parts_asked(service: &Service<Tally>, pair: Pair, parts: &[Part], log: &mut Vec<Told>) -> Pair
+fn parts_asked(service: &Service<Tally>, pair: Pair, parts: &[Part], log: &mut Vec<Call>) -> Pair
     requires first { IsOf service.now pair.first }
     requires second { IsOf service.now pair.second }
     ensures first { IsBack service.now (seat_of pair.first) result.first }
@@ -107,7 +107,7 @@ pub(crate) fn played_alone(
     place: u64,
     work: Work,
     way: Way,
-) -> Result<Vec<Told>, AllocError> {
+) -> Result<Vec<Call>, AllocError> {
     let base = base_at(alloc, place)?;
     let (service, caller) = one_started(alloc, Tally, &base)?;
     let mut log = Vec::new(alloc);
@@ -117,12 +117,12 @@ pub(crate) fn played_alone(
 
 /// Whether updates that add an amount are answered, each at the next ticket from this one on, and with the sum after it, which was this
 /// before.
-pub(crate) fn adds_up(log: &[Told], from: u64, sum: u64, amount: u64) -> bool {
+pub(crate) fn adds_up(log: &[Call], from: u64, sum: u64, amount: u64) -> bool {
     let mut ticket = from;
     let mut total = sum;
-    for told in log {
+    for call in log {
         total = total.wrapping_add(amount);
-        if !told.is_updated(ticket) || told.reply != adds(total) {
+        if !call.is_updated(ticket) || call.reply != adds(total) {
             return false;
         }
         ticket = ticket.wrapping_add(1);

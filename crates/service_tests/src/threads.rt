@@ -7,7 +7,7 @@ ghost use Rattle.cx_service.specs.Closes.{seat_of, seats_of};
 ghost use Rattle.service_tests.specs.Tests.{IsBack};
 
 use crate::alone::made_alone;
-use crate::calls::{Told, Way, all_asked};
+use crate::calls::{Call, Way, all_asked};
 use crate::holds::holds;
 use crate::starts::{all_started, has_rising_codes};
 use crate::tasks::Work;
@@ -31,7 +31,7 @@ const UNTIL_ANSWERED: Way = Way {
 #[derive(Drop)]
 struct Worked {
     caller: Handed,
-    log: Vec<Told>,
+    log: Vec<Call>,
 }
 
 // A caller asks for its operations.
@@ -87,7 +87,7 @@ fn all_work<O: Object + Send + Sync, R: Threads + Sync>(
 fn parted(
     alloc: Global,
     all: Vec<Worked>,
-    logs: &mut Vec<Vec<Told>>,
+    logs: &mut Vec<Vec<Call>>,
 ) -> Result<Vec<Handed>, AllocError>
     ensures { IfOk result (λ h. seats_of h.items ≡ map (λ w. seat_of w.caller) all.items) }
 {
@@ -104,7 +104,7 @@ fn parted(
 /// their service left when it was closed.
 #[derive(Drop)]
 pub(crate) struct Ran {
-    pub(crate) logs: Vec<Vec<Told>>,
+    pub(crate) logs: Vec<Vec<Call>>,
     pub(crate) taken: u64,
     pub(crate) remains: Remains,
 }
@@ -129,7 +129,7 @@ pub(crate) fn all_worked<O: Object + Send + Sync, R: Threads + Sync>(
     service: &Service<O>,
     callers: Vec<Caller>,
     work: Work,
-    logs: &mut Vec<Vec<Told>>,
+    logs: &mut Vec<Vec<Call>>,
 ) -> Result<Vec<Handed>, AllocError>
     requires each { All (IsCallerOf service.now) callers.items }
     requires all { AreSeats service.now callers.items }
@@ -167,7 +167,7 @@ pub(crate) fn run_on_threads<O: Object + Send + Sync, R: Threads + Sync>(
 pub(crate) type Row = (u32, Work, u64, u64);
 
 // How many reads were answered beside the queue.
-fn reads(logs: &[Vec<Told>]) -> u64 {
+fn reads(logs: &[Vec<Call>]) -> u64 {
     let mut count = 0u64;
     for log in logs {
         count = count.wrapping_add(reads_in(log));
@@ -175,10 +175,10 @@ fn reads(logs: &[Vec<Told>]) -> u64 {
     count
 }
 
-fn reads_in(log: &[Told]) -> u64 {
+fn reads_in(log: &[Call]) -> u64 {
     let mut count = 0u64;
-    for told in log {
-        if told.is_beside() {
+    for call in log {
+        if call.is_beside() {
             count = count.wrapping_add(1);
         }
     }

@@ -31,7 +31,7 @@ struct Pair {
 }
 
 impl Worker<Tally> for Pair {
-    type Told = u64;
+    type Output = u64;
 
     ghost tells = { λ _ _ _ _ _. Unit {0} };
 
@@ -55,23 +55,23 @@ fn write_all<R: Wait>(
     ensures { IsHandedBy service.now caller result.caller }
 {
     let mut caller = caller;
-    let mut told = 0u64;
+    let mut output = 0u64;
     for _ in 0..TIMES {
         match write_once(rt, service, caller, sender) {
             Ok((back, is_right)) => {
-                told = told.wrapping_add(u64::from(is_right));
+                output = output.wrapping_add(u64::from(is_right));
                 caller = back;
             }
             Err(stopped) => {
                 let _ = sender.send(rt, NO_PLACE);
                 let caller = Handed::Stopped(stopped);
-                return Worked { caller, told };
+                return Worked { caller, output };
             }
         }
     }
     let _ = sender.send(rt, NO_PLACE);
     let caller = Handed::Idle(caller);
-    Worked { caller, told }
+    Worked { caller, output }
 }
 
 // Adds 1 and hands the place behind it over: whether all was right. Places are counted from 0, so the place behind an addition is the sum.
@@ -106,7 +106,7 @@ fn read_all<R: Wait>(
     ensures { IsHandedBy service.now caller result.caller }
 {
     let mut caller = caller;
-    let mut told = 0u64;
+    let mut output = 0u64;
     for _ in 0..TIMES {
         let Ok(place) = receiver.recv(rt) else {
             break;
@@ -116,17 +116,17 @@ fn read_all<R: Wait>(
         }
         match read_once(rt, service, caller, place) {
             Ok((back, is_right)) => {
-                told = told.wrapping_add(u64::from(is_right));
+                output = output.wrapping_add(u64::from(is_right));
                 caller = back;
             }
             Err(stopped) => {
                 let caller = Handed::Stopped(stopped);
-                return Worked { caller, told };
+                return Worked { caller, output };
             }
         }
     }
     let caller = Handed::Idle(caller);
-    Worked { caller, told }
+    Worked { caller, output }
 }
 
 // Catches up with a place and reads the sum, which is not below it: whether all was right.
@@ -153,8 +153,8 @@ fn are_handed_over<R: Threads + Wait + Sync>(rt: &R, alloc: Global) -> Result<bo
     let base = base_at(alloc, 0)?;
     let (sender, receiver) = bounded(alloc, TIMES as usize + 1)?;
     let pair = Pair { sender, receiver };
-    let (told, _) = serve(rt, alloc, Tally, 2, &base, &pair)?;
-    Ok(match told.as_slice() {
+    let (outputs, _) = serve(rt, alloc, Tally, 2, &base, &pair)?;
+    Ok(match outputs.as_slice() {
         [written, read] => *written == TIMES && *read == TIMES,
         _ => false,
     })

@@ -115,8 +115,8 @@ fn goes_on(alloc: Global, written: &Written, ticket: u64, sum: u64) -> Result<bo
         return Ok(false);
     }
     let (service, caller) = one_started(alloc, LaterTally, &base)?;
-    let (_, told) = asked(&service, Handed::Idle(caller), &adds(3), UPDATE);
-    Ok(told.is_updated(ticket) && told.reply[0] == sum)
+    let (_, call) = asked(&service, Handed::Idle(caller), &adds(3), UPDATE);
+    Ok(call.is_updated(ticket) && call.reply[0] == sum)
 }
 
 #[test]
@@ -146,9 +146,9 @@ fn first_other(service: &Service<DocStore>, caller: Caller, rows: &[Answered]) -
     let mut handed = Handed::Idle(caller);
     for (i, (kind, document, number, want)) in rows.iter().enumerate() {
         let op = words_of(*kind, b"a", document.as_bytes(), *number);
-        let (back, told) = asked(service, handed, &op, UPDATE);
+        let (back, call) = asked(service, handed, &op, UPDATE);
         handed = back;
-        if !told.is_updated(want.0) || (told.reply[0], told.reply[3]) != (want.1, want.2) {
+        if !call.is_updated(want.0) || (call.reply[0], call.reply[3]) != (want.1, want.2) {
             return Some(i);
         }
     }

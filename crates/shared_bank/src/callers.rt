@@ -37,7 +37,7 @@ pub struct Found {
 /// What the callers of a life were answered, and what was found after the loss of power that followed.
 #[derive(Clone, Copy, Debug)]
 pub struct BankLife {
-    pub answered: CallCounts,
+    pub counts: CallCounts,
     pub found: Found,
 }
 
@@ -83,9 +83,9 @@ impl CallCounts {
 
 impl BankLife {
     /// What all callers were answered, and what the only one that looked found.
-    fn of(answers: &[CallCounts], found: &[Found]) -> BankLife {
+    fn of(counts: &[CallCounts], found: &[Found]) -> BankLife {
         BankLife {
-            answered: CallCounts::of_all(answers),
+            counts: CallCounts::of_all(counts),
             found: found.first().copied().unwrap_or(NOT_FOUND),
         }
     }
@@ -99,14 +99,14 @@ pub fn two_losses<R: Wait + Threads + Sync>(
 ) -> Result<(BankLife, BankLife), AllocError> {
     let bank = Bank::of(64, ACCOUNTS, ALL);
     let base = Base::fresh(alloc, &bank)?;
-    let (answers, remains) = serve(rt, alloc, bank, 4, &base, &Mover { from: 0 })?;
+    let (counts, remains) = serve(rt, alloc, bank, 4, &base, &Mover { from: 0 })?;
     let base = recovered(alloc, &bank, &remains, 0)?;
     let (found, _remains) = serve(rt, alloc, bank, 1, &base, &Looker)?;
-    let first = BankLife::of(&answers, &found);
-    let (answers, remains) = serve(rt, alloc, bank, 4, &base, &Mover { from: EACH })?;
+    let first = BankLife::of(&counts, &found);
+    let (counts, remains) = serve(rt, alloc, bank, 4, &base, &Mover { from: EACH })?;
     let base = recovered(alloc, &bank, &remains, 0)?;
     let (found, _remains) = serve(rt, alloc, bank, 1, &base, &Looker)?;
-    Ok((first, BankLife::of(&answers, &found)))
+    Ok((first, BankLife::of(&counts, &found)))
 }
 
 /// A caller's operations: first it pays out 1,000 to each of its accounts, of what account 0 began with. Then five times it moves 5 from each
@@ -141,14 +141,14 @@ struct Mover {
 }
 
 impl Worker<Bank> for Mover {
-    type Told = CallCounts;
+    type Output = CallCounts;
 
     ghost tells = { λ _ _ _ _ _. Unit {0} };
 
     fn work<R: Wait>(&self, rt: &R, service: &Service<Bank>, caller: Caller) -> Worked<CallCounts> {
         let number = caller.number();
         let mut caller = caller;
-        let mut told = NOTHING;
+        let mut output = NOTHING;
         let mut reply = [0; OP_WORDS];
         for step in self.from..EACH + 90 {
             match ask(
@@ -159,18 +159,18 @@ impl Worker<Bank> for Mover {
                 &mut reply,
             ) {
                 AskOutcome::Told(back, _) => {
-                    told = told.with(Reply::of(&reply));
+                    output = output.with(Reply::of(&reply));
                     caller = back;
                 }
                 AskOutcome::Worn(back) => caller = back,
                 AskOutcome::Stopped(stopped) => {
                     let caller = Handed::Stopped(stopped);
-                    return Worked { caller, told };
+                    return Worked { caller, output };
                 }
             }
         }
         let caller = Handed::Idle(caller);
-        Worked { caller, told }
+        Worked { caller, output }
     }
 }
 
@@ -178,22 +178,25 @@ impl Worker<Bank> for Mover {
 struct Looker;
 
 impl Worker<Bank> for Looker {
-    type Told = Found;
+    type Output = Found;
 
     ghost tells = { λ _ _ _ _ _. Unit {0} };
 
     fn work<R: Wait>(&self, rt: &R, service: &Service<Bank>, caller: Caller) -> Worked<Found> {
         let Worked {
             caller,
-            told: first,
+            output: first,
         } = value(rt, service, caller, Op::Balance { account: 0 });
         let Handed::Idle(caller) = caller else {
-            let told = Found { first, all: 0 };
-            return Worked { caller, told };
+            let output = Found { first, all: 0 };
+            return Worked { caller, output };
         };
-        let Worked { caller, told: all } = value(rt, service, caller, Op::Audit);
-        let told = Found { first, all };
-        Worked { caller, told }
+        let Worked {
+            caller,
+            output: all,
+        } = value(rt, service, caller, Op::Audit);
+        let output = Found { first, all };
+        Worked { caller, output }
     }
 }
 
@@ -206,19 +209,19 @@ fn value<R: Wait>(rt: &R, service: &Service<Bank>, caller: Caller, op: Op) -> Wo
     match ask(rt, service, caller, &op.words(), &mut reply) {
         AskOutcome::Told(back, _) => {
             let caller = Handed::Idle(back);
-            let told = match Reply::of(&reply) {
+            let output = match Reply::of(&reply) {
                 Reply::Value(has) => has,
                 _ => 0,
             };
-            Worked { caller, told }
+            Worked { caller, output }
         }
         AskOutcome::Worn(back) => {
             let caller = Handed::Idle(back);
-            Worked { caller, told: 0 }
+            Worked { caller, output: 0 }
         }
         AskOutcome::Stopped(stopped) => {
             let caller = Handed::Stopped(stopped);
-            Worked { caller, told: 0 }
+            Worked { caller, output: 0 }
         }
     }
 }

@@ -18,7 +18,7 @@ fn main(rt: HostRuntime) -> io::Result<()> {
         Ok((first, second)) => {
             println!(rt;
                 "four callers: {} transfers, {} overdrafts refused, {} audits found 64000",
-                first.answered.moved, first.answered.refused, first.answered.right
+                first.counts.moved, first.counts.refused, first.counts.right
             )?;
             println!(rt;
                 "after a loss of power: account 0 has {}, all have {}",
@@ -26,7 +26,7 @@ fn main(rt: HostRuntime) -> io::Result<()> {
             )?;
             println!(rt;
                 "four callers: {} transfers, {} overdrafts refused, {} audits found 64000",
-                second.answered.moved, second.answered.refused, second.answered.right
+                second.counts.moved, second.counts.refused, second.counts.right
             )?;
             println!(rt;
                 "after another: account 0 has {}, all have {}",

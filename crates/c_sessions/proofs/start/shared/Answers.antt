@@ -28,8 +28,8 @@ loop-caller-preserved g c =
     let due : (view c.loop-caller.pass).due ≡ number_of c.in-Some.caller ∷ map number_of (into_iter_items c.next.new.self) = ap (λ (v : Knows _). v.due) kept.pass.is ∙ ap (map number_of) step in
     record {
       pass = subst (λ (r : Running _). IsPassIn r (map number_of (into_iter_items c.next.new.self)) (arc_value c.in-Ok-new.handover) c.another.new.pass) of (subst (λ (ns : List ℕ). IsPassIn c.deref.result.now (drop 1 ns) (arc_value c.in-Ok-new.handover) c.another.new.pass) due c.in-Ok-another.ensures.1);
-      ready = subst (All (IsOpenSessionOf service)) (sym c.in-Ok-push.ensures.items)
-          (All-push (IsOpenSessionOf service) c.loop-caller.sessions.items c.of-session.result kept.ready (record { same = same; ready = c.of-session.ensures.ready }));
+      opened = subst (All (IsOpenSessionOf service)) (sym c.in-Ok-push.ensures.items)
+          (All-push (IsOpenSessionOf service) c.loop-caller.sessions.items c.of-session.result kept.opened (record { same = same; opened = c.of-session.ensures.opened }));
       left = All-tail (IsCallerOf service) c.in-Some.caller (into_iter_items c.next.new.self) (subst (All (IsCallerOf service)) step kept.left);
       numbers = moved c.loop-caller.sessions.items _ c.of-session.result c.in-Some.caller (into_iter_items c.next.new.self) (into_iter_items c.loop-caller.caller-iterator) (map number_of c.args.callers.items) c.in-Ok-push.ensures.items step c.of-session.ensures.of.1 kept.numbers;
     }
@@ -39,6 +39,6 @@ returns g c =
     let kept = c.loop-caller.invariant in
     let none : length (into_iter_items c.loop-caller.caller-iterator) ≡ 0 = search rules in
     record {
-      each = kept.ready;
+      each = kept.opened;
       numbers = ended c.loop-caller.sessions.items (into_iter_items c.loop-caller.caller-iterator) (map number_of c.args.callers.items) none kept.numbers;
     }

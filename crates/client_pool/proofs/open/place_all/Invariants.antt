@@ -13,6 +13,6 @@ invariant-loop-caller g l = record {
   limits : limits_at (view l.pass).home ≡ map (λ (x : Seated). x.known.local.limit) l.fn.callers.items;
   parts : (view l.pass).parts ≡ all_parts;
   placed : (view l.pass).placed ≡ map (λ (x : Seated). x.known.local.number) l.yielded;
-  idle : ((view l.pass).held ≡ []) × ((view l.pass).told ≡ []) × ((view l.pass).shown ≡ []);
+  idle : ((view l.pass).held ≡ []) × ((view l.pass).told_calls ≡ []) × ((view l.pass).shown ≡ []);
   all : l.yielded ++ into_iter_items l.caller-iterator ≡ l.fn.callers.items;
 }

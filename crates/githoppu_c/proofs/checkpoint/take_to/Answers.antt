@@ -13,10 +13,10 @@ returns-in-At-clause-takes g c =
     let part = c.checkpoint.new.into in
     let place = c.in-At.place in
     let takes : TakesIn g.O.Object part 16 s (At place) c.checkpoint.new.self = search rules in
-    let base = taken_base g.O.Object part 16 place s c.checkpoint.new.self c.requires.ready c.checkpoint.ensures.takes.ready takes in
+    let base = taken_base g.O.Object part 16 place s c.checkpoint.new.self c.requires.opened c.checkpoint.ensures.takes.opened takes in
     let all : length c.args.words.now ≡ region_words r.lines + 8 = search rules in
     record {
-      told = c.base_image_words-count.ensures ∙ ap (λ n. region_words n + 8) c.lines-lines.ensures.value;
+      needed_is = c.base_image_words-count.ensures ∙ ap (λ n. region_words n + 8) c.lines-lines.ensures.value;
       took = inl (
         all,
         record {

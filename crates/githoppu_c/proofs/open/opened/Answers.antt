@@ -5,13 +5,13 @@ use Rattle.githoppu_c.proofs.open.opened.Goals as goal
 
 pub returns-in-Ok : goal.returns-in-Ok
 returns-in-Ok g c =
-    let ready = c.in-Ok.ensures.ready in
+    let sessions = c.in-Ok.ensures.opened in
     record {
-      service = ready.service;
-      object_is = ap (λ (r : Running _). r.object) ready.is;
-      callers_are = ap (λ (r : Running _). r.callers) ready.is;
-      lines_are = ap (λ (r : Running _). r.lines) ready.is;
-      said = ap (λ (r : Running _). r.base.words) ready.is ∙ ap (λ (b : Base). b.words) c.in-Ok.ensures.fresh;
-      all = ready.all;
-      each = ready.each;
+      service = sessions.service;
+      object_is = ap (λ (r : Running _). r.object) sessions.is;
+      callers_are = ap (λ (r : Running _). r.callers) sessions.is;
+      lines_are = ap (λ (r : Running _). r.lines) sessions.is;
+      said = ap (λ (r : Running _). r.base.words) sessions.is ∙ ap (λ (b : Base). b.words) c.in-Ok.ensures.fresh;
+      all = sessions.all;
+      each = sessions.each;
     }

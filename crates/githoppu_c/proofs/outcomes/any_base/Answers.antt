@@ -12,7 +12,7 @@ returns-in-Ok c =
     let said = c.in-Ok.ensures in
     let same = c.of.ensures ∙ said.1.lines in
     record {
-      told = base_for_kind words (IsObjectIn store_ghosts Document c.of.result words) (IsObjectFault store_ghosts Document c.of.result words) c.base_in.result said.1.headed
-          (λ b taken. inl (said.0, store_base words c.of.result same b taken)) (λ f of. inl (said.0, store_fault words c.of.result same f of)) c.base_in.ensures.told;
+      base = base_for_kind words (IsObjectIn store_ghosts Document c.of.result words) (IsObjectFault store_ghosts Document c.of.result words) c.base_in.result said.1.headed
+          (λ b taken. inl (said.0, store_base words c.of.result same b taken)) (λ f of. inl (said.0, store_fault words c.of.result same f of)) c.base_in.ensures.base;
       long = search rules;
     }

@@ -12,7 +12,7 @@ returns-in-Ok c =
     let said = c.in-Ok.ensures in
     let same = c.of.ensures ∙ said.1.lines in
     record {
-      told = base_for_kind words (IsObjectIn queue_ghosts QueueReplies c.of.result words) (IsObjectFault queue_ghosts QueueReplies c.of.result words) c.base_in.result said.1.headed
-          (λ b taken. inr (inl (said.0, queue_base words c.of.result same b taken))) (λ f of. inr (inl (said.0, queue_fault words c.of.result same f of))) c.base_in.ensures.told;
+      base = base_for_kind words (IsObjectIn queue_ghosts QueueReplies c.of.result words) (IsObjectFault queue_ghosts QueueReplies c.of.result words) c.base_in.result said.1.headed
+          (λ b taken. inr (inl (said.0, queue_base words c.of.result same b taken))) (λ f of. inr (inl (said.0, queue_fault words c.of.result same f of))) c.base_in.ensures.base;
       long = search rules;
     }

@@ -14,7 +14,7 @@ returns-in-Ok c =
     let same = c.of-object.ensures.0 ∙ said.1.lines in
     let version = c.of-object.ensures.1 ∙ c.fingerprint_in.ensures in
     record {
-      told = base_for_kind words (IsObjectIn named_ghosts ProgramReplies object words) (IsObjectFault named_ghosts ProgramReplies object words) c.base_in.result said.1.headed
-          (λ b taken. inr (inr (said.0, named_base words object same version b taken))) (λ f of. inr (inr (said.0, named_fault words object same version f of))) c.base_in.ensures.told;
+      base = base_for_kind words (IsObjectIn named_ghosts ProgramReplies object words) (IsObjectFault named_ghosts ProgramReplies object words) c.base_in.result said.1.headed
+          (λ b taken. inr (inr (said.0, named_base words object same version b taken))) (λ f of. inr (inr (said.0, named_fault words object same version f of))) c.base_in.ensures.base;
       long = search rules;
     }

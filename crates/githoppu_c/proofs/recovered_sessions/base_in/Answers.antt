@@ -3,8 +3,8 @@ use Rattle.c_images.specs.Words.{IsTakenUp, IsWordsFault}
 use Rattle.githoppu_c.proofs.Bases.{taken}
 use Rattle.githoppu_c.proofs.recovered_sessions.base_in.Goals as goal
 
-pub returns-in-Ok-clause-told : goal.returns-in-Ok-clause-told
-returns-in-Ok-clause-told g c =
+pub returns-in-Ok-clause-base : goal.returns-in-Ok-clause-base
+returns-in-Ok-clause-base g c =
     let o = g.O.Object in
     let object = c.args.object.now in
     let words = c.args.words.now in

@@ -11,19 +11,19 @@ pub returns-in_err-base : goal.returns-in_err-base
 returns-in_err-base g c =
     let o = g.O.Object in
     handed_on _ (λ (code : ℤ). IsRefusal (IsObjectFault o g.O.OfC.replies_kept c.args.object c.args.words.now) code ⊎ IsOpenCode code) c.from_residual.result _ c.from_residual.ensures.1
-    (inl (kind_refused o c.args.object c.args.words.now c.reply_kind.result g.O.OfC.replies_kept _ c.reply_kind.ensures c.in_err-base.ensures.told))
+    (inl (kind_refused o c.args.object c.args.words.now c.reply_kind.result g.O.OfC.replies_kept _ c.reply_kind.ensures c.in_err-base.ensures.base))
 
 pub returns-in-Ok : goal.returns-in-Ok
 returns-in-Ok g c =
-    let ready = c.in-Ok.ensures in
+    let sessions = c.in-Ok.ensures in
     record {
-      service = ready.service;
-      object_is = ap (λ (r : Running _). r.object) ready.is;
-      callers_are = ap (λ (r : Running _). r.callers) ready.is;
-      lines_are = ap (λ (r : Running _). r.lines) ready.is;
-      said = subst (IsObjectIn g.O.Object g.O.OfC.replies_kept c.args.object c.args.words.now) (sym (ap (λ (r : Running _). r.base) ready.is)) (subst (λ k. IsObjectIn g.O.Object k c.args.object c.args.words.now c.in_ok-base.base) c.reply_kind.ensures c.in_ok-base.ensures.told);
-      all = ready.all;
-      each = ready.each;
+      service = sessions.service;
+      object_is = ap (λ (r : Running _). r.object) sessions.is;
+      callers_are = ap (λ (r : Running _). r.callers) sessions.is;
+      lines_are = ap (λ (r : Running _). r.lines) sessions.is;
+      said = subst (IsObjectIn g.O.Object g.O.OfC.replies_kept c.args.object c.args.words.now) (sym (ap (λ (r : Running _). r.base) sessions.is)) (subst (λ k. IsObjectIn g.O.Object k c.args.object c.args.words.now c.in_ok-base.base) c.reply_kind.ensures c.in_ok-base.ensures.base);
+      all = sessions.all;
+      each = sessions.each;
     }
 
 pub returns : goal.returns

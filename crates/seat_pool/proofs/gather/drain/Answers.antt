@@ -11,7 +11,7 @@ use Rattle.seat_pool.proofs.gather.drain.Goals as goal
 pub loop-init : goal.loop-init
 loop-init g c = record {
   pass = c.requires.0.0;
-  gathering = record { home = c.requires.0.1; parts = c.requires.0.2; placed = refl; told = refl; shown = refl; gathers = c.requires.1.0 };
+  gathering = record { home = c.requires.0.1; parts = c.requires.0.2; placed = refl; told_calls = refl; shown = refl; gathers = c.requires.1.0 };
   more = λ f. omega arith;
   idle = λ f none. refl;
   room = c.requires.1.1;
@@ -34,11 +34,11 @@ loop-preserved g c =
     let v = view c.loop.pass in
     let w = view c.take.new.pass in
     let x = c.in-Some-take.caller in
-    let told = c.in-Some-take.ensures.caller in
+    let taken = c.in-Some-take.ensures.caller in
     let room = c.loop.invariant.room in
     let same = c.push_reserved.ensures.capacity in record {
       pass = c.take.ensures.pass;
-      gathering = subst (λ ys. IsGathering r before w ys) (sym c.push_reserved.ensures.items) (still_gathering r before v w c.loop.gathered.items x c.loop.invariant.gathering told.0 told.2);
+      gathering = subst (λ ys. IsGathering r before w ys) (sym c.push_reserved.ensures.items) (still_gathering r before v w c.loop.gathered.items x c.loop.invariant.gathering taken.0 taken.2);
       more = λ f. (let grown = ap (total_weight f) c.push_reserved.ensures.items in omega (arith, grown, c.loop.invariant.more f, total_both f c.loop.gathered.items (Idle x ∷ [])));
       idle = λ f none. (let grown = ap (total_weight f) c.push_reserved.ensures.items in omega (arith, grown, none x, c.loop.invariant.idle f none, total_both f c.loop.gathered.items (Idle x ∷ [])));
       room = omega (arith, room, same);
@@ -54,4 +54,4 @@ pub returns-in-None-take-clause-same : goal.returns-in-None-take-clause-same
 returns-in-None-take-clause-same g c =
     let same = c.in-None-take.ensures.caller.0 in
     let kept = c.loop.invariant.gathering in
-    (ap (λ (u : LenderPass). u.placed) same ∙ kept.placed, ap (λ (u : LenderPass). u.told) same ∙ kept.told, ap (λ (u : LenderPass). u.shown) same ∙ kept.shown)
+    (ap (λ (u : LenderPass). u.placed) same ∙ kept.placed, ap (λ (u : LenderPass). u.told_calls) same ∙ kept.told_calls, ap (λ (u : LenderPass). u.shown) same ∙ kept.shown)

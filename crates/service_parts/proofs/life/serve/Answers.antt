@@ -1,5 +1,5 @@
 use Rattle.cx_service.specs.Closes.{seats_of}
-use Rattle.service_parts.proofs.OpenLemmas.{served_of, told_of}
+use Rattle.service_parts.proofs.OpenLemmas.{served_by, served_of}
 use Rattle.service_parts.proofs.life.serve.Goals as goal
 
 pub returns-clause-served : goal.returns-clause-served
@@ -8,5 +8,5 @@ returns-clause-served g c =
 
 pub returns-clause-tells : goal.returns-clause-tells
 returns-clause-tells g c =
-    told_of g.O.Object c.args.object c.args.callers c.args.base.now (g.W.Worker.tells c.args.worker.now) c.in_ok-service.service c.in_ok-service.callers.items (seats_of c.in_ok-handed.handed.items) c.in_ok-handed.told.items c.in_ok-remains.remains
+    served_by g.O.Object c.args.object c.args.callers c.args.base.now (g.W.Worker.tells c.args.worker.now) c.in_ok-service.service c.in_ok-service.callers.items (seats_of c.in_ok-handed.handed.items) c.in_ok-handed.outputs.items c.in_ok-remains.remains
     c.in_ok-service.ensures.service c.in_ok-service.ensures.new c.in_ok-remains.ensures.leaves c.in_ok-handed.ensures.tells

@@ -9,9 +9,9 @@ returns g c =
     let all = c.in_ok-all.all in
     let e = c.in_ok-all.ensures in
     let v = c.args.callers in
-    let told = length-map all.items (λ w. w.told) in
+    let as_many = length-map all.items (λ w. w.output) in
     record {
       handed = seats_after r (λ w. w.caller) v.items all.items (omega (arith, e.long, all.ok.0, v.ok.0)) (λ k d x below. (e.each k d x (omega (arith, below, v.ok.0))).back) c.requires.all;
-      count = omega (arith, told, e.long, all.ok.0, v.ok.0);
-      tells = tells_each (g.W.Worker.tells c.args.worker.now r) (λ w. w.caller) (λ w. w.told) v.items all.items (omega (arith, e.long, all.ok.0, v.ok.0)) (λ k d x below. (e.each k d x (omega (arith, below, v.ok.0))).tells_so);
+      count = omega (arith, as_many, e.long, all.ok.0, v.ok.0);
+      tells = tells_each (g.W.Worker.tells c.args.worker.now r) (λ w. w.caller) (λ w. w.output) v.items all.items (omega (arith, e.long, all.ok.0, v.ok.0)) (λ k d x below. (e.each k d x (omega (arith, below, v.ok.0))).tells_so);
     }

@@ -9,5 +9,5 @@ returns g c =
     let tells = g.W.Worker.tells c.args.worker.now r in
     let olds = c.args.callers.items in
     let all = c.in_ok-all.all.items in
-    subst (λ hs. HaveWorked r tells olds (seats_of hs) c.in_ok-handed.told.items) (sym c.in_ok-handed.ensures.callers)
-    (subst (λ ts. HaveWorked r tells olds (seats_of (map (λ w. w.caller) all)) ts) (sym c.in_ok-handed.ensures.told) c.in_ok-all.ensures)
+    subst (λ hs. HaveWorked r tells olds (seats_of hs) c.in_ok-handed.outputs.items) (sym c.in_ok-handed.ensures.callers)
+    (subst (λ ts. HaveWorked r tells olds (seats_of (map (λ w. w.caller) all)) ts) (sym c.in_ok-handed.ensures.outputs) c.in_ok-all.ensures)

@@ -12,8 +12,8 @@ left g c =
     let service = c.deref.result.now in
     let b = c.in-Some.handed in
     let h = c.catch_up_idle-handed.result.0 in
-    left_by _ s b h service _ _ c.deref.ensures c.requires.ready (sym c.take.ensures.value ∙ c.in-Some.is) c.place_seen-self.ensures c.catch_up_idle-handed.ensures.ready c.catch_up_idle-handed.ensures.done
+    left_by _ s b h service _ _ c.deref.ensures c.requires.opened (sym c.take.ensures.value ∙ c.in-Some.is) c.place_seen-self.ensures c.catch_up_idle-handed.ensures.of c.catch_up_idle-handed.ensures.done
     (λ of seen. sees_go service s.place c.args.place b c.catch_up_idle-handed.result.1 h of seen c.catch_up_idle-handed.ensures.done)
 
 pub returns : goal.returns
-returns g c = record { ready = (left g c).ready; done = (left g c).stands }
+returns g c = record { opened = (left g c).opened; done = (left g c).stands }

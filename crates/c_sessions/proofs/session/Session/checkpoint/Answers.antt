@@ -12,8 +12,8 @@ left g c =
     let service = c.deref.result.now in
     let b = c.in-Some.handed in
     let h = c.take_image-handed.result.0 in
-    left_by _ s b h service _ _ c.deref.ensures c.requires.ready (sym c.take.ensures.value ∙ c.in-Some.is) c.place_taken-self.ensures c.take_image-handed.ensures.takes.ready c.take_image-handed.ensures.takes.done
+    left_by _ s b h service _ _ c.deref.ensures c.requires.opened (sym c.take.ensures.value ∙ c.in-Some.is) c.place_taken-self.ensures c.take_image-handed.ensures.takes.of c.take_image-handed.ensures.takes.done
     (λ of seen. takes_go service s.place g.O.Object c.take_image-handed.new.into c.args.tries.count b c.take_image-handed.result.1 h of seen c.take_image-handed.ensures.takes.done)
 
 pub returns-clause-takes : goal.returns-clause-takes
-returns-clause-takes g c = record { ready = (left g c).ready; done = (left g c).stands }
+returns-clause-takes g c = record { opened = (left g c).opened; done = (left g c).stands }

@@ -8,11 +8,11 @@ pub close_rest-requires : goal.close_rest-requires
 close_rest-requires g c =
     let s = c.args.self in
     let x : HandedIn _ = record { service = s.service; handed = s.handed } in
-    (arc_value s.service, kept_list s.handed, rest_begins (arc_value s.service) s.exit (handed_number c.requires.handed) x c.deref.result.now c.hand_in.new.pass c.requires.exit c.deref.ensures c.hand_in.ensures.of c.in_default.ensures.told)
+    (arc_value s.service, kept_list s.handed, rest_begins (arc_value s.service) s.exit (handed_number c.requires.handed) x c.deref.result.now c.hand_in.new.pass c.requires.exit c.deref.ensures c.hand_in.ensures.of c.in_default.ensures.by_answer)
 
 pub returns : goal.returns
 returns g c =
     let s = c.args.self in
     let x : HandedIn _ = record { service = s.service; handed = s.handed } in
     closes g.O.Object.line_count g.O.Object.lawful g.O.Object.step g.O.Object.only_reads s c.close_rest.result
-    (c.close_rest.ensures (arc_value s.service) (kept_list s.handed) (rest_begins (arc_value s.service) s.exit (handed_number c.requires.handed) x c.deref.result.now c.hand_in.new.pass c.requires.exit c.deref.ensures c.hand_in.ensures.of c.in_default.ensures.told))
+    (c.close_rest.ensures (arc_value s.service) (kept_list s.handed) (rest_begins (arc_value s.service) s.exit (handed_number c.requires.handed) x c.deref.result.now c.hand_in.new.pass c.requires.exit c.deref.ensures c.hand_in.ensures.of c.in_default.ensures.by_answer))

@@ -12,8 +12,8 @@ left g c =
     let service = c.deref.result.now in
     let b = c.in-Some.handed in
     let h = c.finish_linked-handed.result.0 in
-    left_by _ s b h service _ _ c.deref.ensures c.requires.ready (sym c.take.ensures.value ∙ c.in-Some.is) c.place_after-self.ensures c.finish_linked-handed.ensures.ready c.finish_linked-handed.ensures.done
+    left_by _ s b h service _ _ c.deref.ensures c.requires.opened (sym c.take.ensures.value ∙ c.in-Some.is) c.place_after-self.ensures c.finish_linked-handed.ensures.of c.finish_linked-handed.ensures.done
     (λ of seen. finishes_go service s.place c.args.tries.count b c.finish_linked-handed.result.1 h c.finish_linked-handed.new.reply seen c.finish_linked-handed.ensures.done)
 
 pub returns : goal.returns
-returns g c = record { ready = (left g c).ready; done = (left g c).stands }
+returns g c = record { opened = (left g c).opened; done = (left g c).stands }

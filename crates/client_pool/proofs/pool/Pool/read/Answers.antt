@@ -7,7 +7,7 @@ use Rattle.client_pool.specs.declared.call.Answered.{Answered}
 use Rattle.client_pool.specs.declared.call.Answered.TheVariants.{Read, Updated}
 use Rattle.client_pool.specs.declared.client.Client.{Client}
 use Rattle.client_pool.proofs.Calling.{full_more, read_is, read_more, stopped_more, updated, worn_more}
-use Rattle.client_pool.proofs.Lends.{read_full, read_since, read_stopped, read_told, read_worn, returns_first, stopped_so}
+use Rattle.client_pool.proofs.Lends.{read_done, read_full, read_since, read_stopped, read_worn, returns_first, stopped_so}
 use Rattle.client_pool.proofs.pool.Pool.read.Goals as goal
 
 pub returns-in-Found : goal.returns-in-Found
@@ -42,10 +42,10 @@ returns-in-Entered-Done g c =
     let least = c.place-floor.ensures in
     let after : Client = record { number = before.number; floor = answer.ticket + 1; caught_up = before.caught_up; answers = c.push_reserved-in-Entered-Done.new.self; lent = c.read_beside.new.lent; closing = before.closing } in
     let x = c.in-Ok.caller in
-    let told = read_told r table c.args.op.now reply floor before.lent c.begin.new.lent after.lent x caller ticket c.in-Ok.ensures (subst (LooksOn r table c.args.op.now c.read_beside.new.reply x c.begin.new.lent after.lent) c.in-Entered-Done.field-0-is c.in-Entered-Done.ensures) in (
-      updated r table before after c.args.op.now floor caller told.0 answer (omega (arith, least)) (omega (arith, least)) told.1 (record { number = refl; limits = told.1.limits; closing = refl }) refl
+    let done = read_done r table c.args.op.now reply floor before.lent c.begin.new.lent after.lent x caller ticket c.in-Ok.ensures (subst (LooksOn r table c.args.op.now c.read_beside.new.reply x c.begin.new.lent after.lent) c.in-Entered-Done.field-0-is c.in-Entered-Done.ensures) in (
+      updated r table before after c.args.op.now floor caller done.0 answer (omega (arith, least)) (omega (arith, least)) done.1 (record { number = refl; limits = done.1.limits; closing = refl }) refl
           (c.push_reserved-in-Entered-Done.ensures.items ∙ ap (λ (l : List Answered). l ++ Updated caller answer ∷ []) c.reserve.ensures.items) refl,
-      told.2,
+      done.2,
     )
 
 pub returns-in-Entered-Full : goal.returns-in-Entered-Full
@@ -90,6 +90,6 @@ overflow_add-client g c =
     let x = c.in-Ok.caller in
     let mid = c.begin.new.lent in
     let after = c.read_beside.new.lent in
-    let told = read_told r table c.args.op.now c.read_beside.new.reply c.place-floor.result c.args.client.now.lent mid after x c.in-Entered-Done.caller c.in-Entered-Done.ticket c.in-Ok.ensures (subst (LooksOn r table c.args.op.now c.read_beside.new.reply x mid after) c.in-Entered-Done.field-0-is c.in-Entered-Done.ensures) in
-    let small = told.1.small in
+    let done = read_done r table c.args.op.now c.read_beside.new.reply c.place-floor.result c.args.client.now.lent mid after x c.in-Entered-Done.caller c.in-Entered-Done.ticket c.in-Ok.ensures (subst (LooksOn r table c.args.op.now c.read_beside.new.reply x mid after) c.in-Entered-Done.field-0-is c.in-Entered-Done.ensures) in
+    let small = done.1.small in
     omega (arith, small)

@@ -6,7 +6,7 @@ use Rattle.client_pool.specs.declared.call.Answered.{Answered}
 use Rattle.client_pool.specs.declared.call.Answered.TheVariants.{Updated}
 use Rattle.client_pool.specs.declared.client.Client.{Client}
 use Rattle.client_pool.proofs.Calling.{full_more, stopped_more, updated, worn_more}
-use Rattle.client_pool.proofs.Lends.{stopped_so, update_full, update_settles, update_stopped, update_told, update_worn}
+use Rattle.client_pool.proofs.Lends.{stopped_so, update_done, update_full, update_settles, update_stopped, update_worn}
 use Rattle.client_pool.proofs.pool.Pool.update.Goals as goal
 
 pub settle-requires-clause-updated : goal.settle-requires-clause-updated
@@ -24,10 +24,10 @@ returns-in-Done g c =
     let least = c.place-floor.ensures in
     let after : Client = record { number = before.number; floor = answer.ticket + 1; caught_up = before.caught_up; answers = c.push_reserved.new.self; lent = c.settle.new.lent; closing = before.closing } in
     let x = c.in-Ok.caller in
-    let told = update_told r table c.args.op.now reply floor before.lent c.begin.new.lent after.lent x c.in-Done.caller c.in-Done.ticket c.in-Ok.ensures c.update-updated.result c.update-updated.ensures c.in-Done.ensures in (
-      updated r table before after c.args.op.now floor c.in-Done.caller x answer (omega (arith, least)) (omega (arith, least)) told.0 (record { number = refl; limits = told.0.limits; closing = refl }) refl
+    let done = update_done r table c.args.op.now reply floor before.lent c.begin.new.lent after.lent x c.in-Done.caller c.in-Done.ticket c.in-Ok.ensures c.update-updated.result c.update-updated.ensures c.in-Done.ensures in (
+      updated r table before after c.args.op.now floor c.in-Done.caller x answer (omega (arith, least)) (omega (arith, least)) done.0 (record { number = refl; limits = done.0.limits; closing = refl }) refl
           (c.push_reserved.ensures.items ∙ ap (λ (l : List Answered). l ++ Updated c.in-Done.caller answer ∷ []) c.reserve.ensures.items) refl,
-      told.1,
+      done.1,
     )
 
 pub returns-in-Full : goal.returns-in-Full

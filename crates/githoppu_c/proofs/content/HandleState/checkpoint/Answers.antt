@@ -14,14 +14,14 @@ returns-in-Session-clause-back g c =
     let before = c.in-Session.session in
     let after = c.take_to.new in
     let code = to_z w32 (of_z w32 c.take_to.result) in
-    let ready = (subst (IsContentCallable o g.O.OfC.replies_kept) c.in-Session.is c.requires.callable).0 in
+    let opened = (subst (IsContentCallable o g.O.OfC.replies_kept) c.in-Session.is c.requires.callable).0 in
     let takes : TakesAs o kind before after.session c.args.words.now after.words after.needed code = search rules in
     let law = c.taken_images_are_taken_up.ensures in
     let table = arc_value before.service in
     let running = c.take_to.ensures.running in
     subst (λ (s : HandleState _). ContentTakenBack o kind after.words code s) (sym c.in-Session.is)
     (λ done. (
-    let has = region_in o kind before after.session after.words ready c.take_to.ensures.ready c.args.words.now after.needed code takes done in
+    let has = region_in o kind before after.session after.words opened c.take_to.ensures.opened c.args.words.now after.needed code takes done in
     let head = law.headed table kind has.place has.region after.words g.met.O.OfC.known running has.written in
     record {
       running = running;
