@@ -87,8 +87,8 @@ module _ {Op Reply : Type 0} (encoding : Encoding Op Reply) (life : Life Op) (lo
       }
 
   -- a client that gave up did so in a command that it has, and another one, which was stopped, keeps its 16 answered entries
-  pub legal_full : (told : LifeRecord Reply) → told.journal ≡ journal → All (IsToldFull locals told.stops) told.fulls → (k : ℕ) (line : FullLine) → slice_get fulls k ≡ Some line → told.fulls ≡ fulls → IsLegalFull life told line
-  legal_full told js are k line at fs =
+  pub legal_full : (report : LifeRecord Reply) → report.journal ≡ journal → All (IsToldFull locals report.stops) report.fulls → (k : ℕ) (line : FullLine) → slice_get fulls k ≡ Some line → report.fulls ≡ fulls → IsLegalFull life report line
+  legal_full report js are k line at fs =
       let has = has_get fulls k line at in
       let below : line.client < length locals = All-contains (λ (x : FullLine). x.client < length locals) fulls line m.of_fulls (has_contains fulls line has) in
       let l = item_below locals line.client below in
@@ -105,7 +105,7 @@ module _ {Op Reply : Type 0} (encoding : Encoding Op Reply) (life : Life Op) (lo
       record {
         named = record { takes_part = omega arith; there = subst (λ (o : Option Op). IsSome o) (sym there) refl };
         other = full.other;
-        stopped = (All-contains (IsToldFull locals told.stops) told.fulls line are (rw fs (has_contains fulls line has))).stopped;
+        stopped = (All-contains (IsToldFull locals report.stops) report.fulls line are (rw fs (has_contains fulls line has))).stopped;
         need = full.need;
         cells = rw js (enough encoding life line.client w.done l.0 l.0.answered journal line full lines replied);
         least = one.0;
@@ -177,8 +177,8 @@ module _ {Op Reply : Type 0} (encoding : Encoding Op Reply) (life : Life Op) (lo
     over_of (Some line) full is any = inr (inl (stopped_in (Some line) is refl))
 
     -- the client ended: it was answered, or stopped, or gave up
-    pub has_ended : (told : LifeRecord Reply) → told.journal ≡ journal → told.reads ≡ reads → told.stops ≡ stops → told.fulls ≡ fulls → HasEnded life told client
-    has_ended told js rs ss fs = record {
+    pub has_ended : (report : LifeRecord Reply) → report.journal ≡ journal → report.reads ≡ reads → report.stops ≡ stops → report.fulls ≡ fulls → HasEnded life report client
+    has_ended report js rs ss fs = record {
       answered = done;
       within = mine.within;
       once = λ command one up. rw (js, rs)
@@ -197,16 +197,16 @@ module _ {Op Reply : Type 0} (encoding : Encoding Op Reply) (life : Life Op) (lo
     }
 
 -- clients whose lines are told by a history have ended
-pub told_ended : {Op Reply : Type 0} → (encoding : Encoding Op Reply) → (life : Life Op) (place : ℕ) (history : List Entry) (locals : List Local) (told : LifeRecord Reply) → AreWorks encoding life locals told.journal told.reads told.stops told.fulls → IsTold encoding life place history locals told → IsEnded life told
-told_ended encoding life place history locals told m is = record {
+pub life_ended : {Op Reply : Type 0} → (encoding : Encoding Op Reply) → (life : Life Op) (place : ℕ) (history : List Entry) (locals : List Local) (report : LifeRecord Reply) → AreWorks encoding life locals report.journal report.reads report.stops report.fulls → IsTold encoding life place history locals report → IsEnded life report
+life_ended encoding life place history locals report m is = record {
   tickets = λ i line at. is.tickets i line at ∙ ap (λ p. p + i) (sym is.from);
-  interleaved = interleaves encoding life locals told.journal told.reads told.stops told.fulls m is.callers;
+  interleaved = interleaves encoding life locals report.journal report.reads report.stops report.fulls m is.callers;
   reads_in_order = m.reads_in_order;
   stops_in_order = m.stops_in_order;
   fulls_in_order = m.fulls_in_order;
   ended = λ client below.
       let l = item_below locals client (let same = is.callers in omega arith) in
-      has_ended encoding life locals told.journal told.reads told.stops told.fulls m is.callers client l.0 l.1 told refl refl refl refl;
-  stops = all_each (IsLegalStop life) told.stops (each_get (IsLegalStop life) told.stops (legal_stop encoding life locals told.journal told.reads told.stops told.fulls m is.callers is.limits));
-  fulls = all_each (IsLegalFull life told) told.fulls (each_get (IsLegalFull life told) told.fulls (λ k line at. legal_full encoding life locals told.journal told.reads told.stops told.fulls m is.callers told refl is.fulls k line at refl));
+      has_ended encoding life locals report.journal report.reads report.stops report.fulls m is.callers client l.0 l.1 report refl refl refl refl;
+  stops = all_each (IsLegalStop life) report.stops (each_get (IsLegalStop life) report.stops (legal_stop encoding life locals report.journal report.reads report.stops report.fulls m is.callers is.limits));
+  fulls = all_each (IsLegalFull life report) report.fulls (each_get (IsLegalFull life report) report.fulls (λ k line at. legal_full encoding life locals report.journal report.reads report.stops report.fulls m is.callers report refl is.fulls k line at refl));
 }

@@ -85,7 +85,7 @@ stopped_flagged encoding life client (Some a) (Some b) x same is =
 
 reads_flagged : {Op Reply : Type 0} → (encoding : Encoding Op Reply) → (life : Life Op) (client : ℕ) (a b : Option StopLine) (seen : List SeenRead) (lines : List (ReadLine Reply)) → SameStopOf a b → AreReadLines encoding life client a seen lines → AreReadLines encoding life client b seen lines
 reads_flagged encoding life client a b seen lines same are = record {
-  told = are.told;
+  reported = are.reported;
   left = are.left;
   are = are.are;
   lines_are = are.lines_are;
@@ -97,10 +97,10 @@ reads_flagged encoding life client a b seen lines same are = record {
 stops_flagged : (P : StopLine → Type 0) → ((a b : StopLine) → IsSameStop a b → P a → P b) → (xs ys : List StopLine) → AllZip IsSameStop xs ys → All P xs → All P ys
 stops_flagged P f xs ys z all = all_each P ys (zip_each IsSameStop P P f xs ys z (each_all P xs all))
 
-module _ {Op Reply : Type 0} (life : Life Op) (told flagged : LifeRecord Reply) (same : IsSameButKept told flagged) where
+module _ {Op Reply : Type 0} (life : Life Op) (report flagged : LifeRecord Reply) (same : IsSameButKept report flagged) where
   -- what a closed table tells of the record stays
-  pub told_flagged : (encoding : Encoding Op Reply) (place : ℕ) (history : List Entry) (locals : List Local) → IsTold encoding life place history locals told → IsTold encoding life place history locals flagged
-  told_flagged encoding place history locals is = record {
+  pub still_is_told : (encoding : Encoding Op Reply) (place : ℕ) (history : List Entry) (locals : List Local) → IsTold encoding life place history locals report → IsTold encoding life place history locals flagged
+  still_is_told encoding place history locals is = record {
     clients = same.clients ∙ is.clients;
     callers = is.callers;
     limits = is.limits;
@@ -109,57 +109,57 @@ module _ {Op Reply : Type 0} (life : Life Op) (told flagged : LifeRecord Reply) 
     long = rw same.journal is.long;
     tickets = rw same.journal is.tickets;
     entries = rw same.journal (λ i line entry l at there of.
-        line_flagged encoding life entry.caller l.answered (stop_of entry.caller told.stops) (stop_of entry.caller flagged.stops) (record { ticket = place + i; entry = entry }) line
-        (same_stop_of entry.caller told.stops flagged.stops same.stops) (is.entries i line entry l at there of));
+        line_flagged encoding life entry.caller l.answered (stop_of entry.caller report.stops) (stop_of entry.caller flagged.stops) (record { ticket = place + i; entry = entry }) line
+        (same_stop_of entry.caller report.stops flagged.stops same.stops) (is.entries i line entry l at there of));
     reads = rw same.reads (λ client l at.
-        reads_flagged encoding life client (stop_of client told.stops) (stop_of client flagged.stops) l.seen_reads (filter (by_read client) told.reads)
-        (same_stop_of client told.stops flagged.stops same.stops) (is.reads client l at));
+        reads_flagged encoding life client (stop_of client report.stops) (stop_of client flagged.stops) l.seen_reads (filter (by_read client) report.reads)
+        (same_stop_of client report.stops flagged.stops same.stops) (is.reads client l at));
     stops = stops_flagged (IsToldStop locals)
         (λ a b s t. record { local = t.local; of_client = ap (slice_get locals) s.client ∙ t.of_client; steps = t.steps; under_way = subst (IsUnderWay t.local) (sym s.command) t.under_way })
-        told.stops flagged.stops same.stops is.stops;
-    fulls = subst (All (IsToldFull locals flagged.stops)) (sym same.fulls) (All-weaker (IsToldFull locals told.stops) (IsToldFull locals flagged.stops)
+        report.stops flagged.stops same.stops is.stops;
+    fulls = subst (All (IsToldFull locals flagged.stops)) (sym same.fulls) (All-weaker (IsToldFull locals report.stops) (IsToldFull locals flagged.stops)
         (λ line t. record {
           local = t.local;
           of_client = t.of_client;
           need = t.need;
           cells = t.cells;
-          stopped = sym (same_stopped line.note.holder told.stops flagged.stops same.stops) ∙ t.stopped;
+          stopped = sym (same_stopped line.note.holder report.stops flagged.stops same.stops) ∙ t.stopped;
         })
-        told.fulls is.fulls);
+        report.fulls is.fulls);
   }
 
-  has_flag : (client command : ℕ) → has_stop client command told.stops ≡ has_stop client command flagged.stops
-  has_flag client command = same_has_stop client command told.stops flagged.stops same.stops
+  has_flag : (client command : ℕ) → has_stop client command report.stops ≡ has_stop client command flagged.stops
+  has_flag client command = same_has_stop client command report.stops flagged.stops same.stops
 
-  entry_flagged : (client answered : ℕ) (line : JournalLine Reply) → IsEndedEntry client answered told.stops line → IsEndedEntry client answered flagged.stops line
+  entry_flagged : (client answered : ℕ) (line : JournalLine Reply) → IsEndedEntry client answered report.stops line → IsEndedEntry client answered flagged.stops line
   entry_flagged client answered line (inl has) = inl has
   entry_flagged client answered line (inr last) = inr (last.0, last.1, sym (has_flag client (answered + 1)) ∙ last.2)
 
-  over_flagged : (client answered n : ℕ) (full : Type 0) → (answered ≡ n) ⊎ ((has_stop client (answered + 1) told.stops ≡ true) ⊎ full) → (answered ≡ n) ⊎ ((has_stop client (answered + 1) flagged.stops ≡ true) ⊎ full)
+  over_flagged : (client answered n : ℕ) (full : Type 0) → (answered ≡ n) ⊎ ((has_stop client (answered + 1) report.stops ≡ true) ⊎ full) → (answered ≡ n) ⊎ ((has_stop client (answered + 1) flagged.stops ≡ true) ⊎ full)
   over_flagged client answered n full (inl all) = inl all
   over_flagged client answered n full (inr (inl stop)) = inr (inl (sym (has_flag client (answered + 1)) ∙ stop))
   over_flagged client answered n full (inr (inr gave_up)) = inr (inr gave_up)
 
-  ended_flagged : (client : ℕ) → HasEnded life told client → HasEnded life flagged client
+  ended_flagged : (client : ℕ) → HasEnded life report client → HasEnded life flagged client
   ended_flagged client e = record {
     answered = e.answered;
     within = e.within;
     once = rw (same.journal, same.reads) e.once;
-    entries = rw same.journal (All-weaker (λ (x : JournalLine Reply). x.client ≡ client → IsEndedEntry client e.answered told.stops x) (λ (x : JournalLine Reply). x.client ≡ client → IsEndedEntry client e.answered flagged.stops x)
-        (λ x was by. entry_flagged client e.answered x (was by)) told.journal e.entries);
+    entries = rw same.journal (All-weaker (λ (x : JournalLine Reply). x.client ≡ client → IsEndedEntry client e.answered report.stops x) (λ (x : JournalLine Reply). x.client ≡ client → IsEndedEntry client e.answered flagged.stops x)
+        (λ x was by. entry_flagged client e.answered x (was by)) report.journal e.entries);
     reads = rw same.reads e.reads;
     stops = stops_flagged (λ (x : StopLine). x.client ≡ client → x.command ≡ e.answered + 1)
         (λ a b s was by. s.command ∙ was (sym s.client ∙ by))
-        told.stops flagged.stops same.stops e.stops;
+        report.stops flagged.stops same.stops e.stops;
     fulls = rw same.fulls e.fulls;
-    over = rw same.fulls (over_flagged client e.answered (length (own_ops client life.commands)) (has_full client (e.answered + 1) told.fulls ≡ true) e.over);
+    over = rw same.fulls (over_flagged client e.answered (length (own_ops client life.commands)) (has_full client (e.answered + 1) report.fulls ≡ true) e.over);
   }
 
-  full_flagged : (line : FullLine) → IsLegalFull life told line → IsLegalFull life flagged line
+  full_flagged : (line : FullLine) → IsLegalFull life report line → IsLegalFull life flagged line
   full_flagged line f = record {
     named = f.named;
     other = f.other;
-    stopped = sym (same_stopped line.note.holder told.stops flagged.stops same.stops) ∙ f.stopped;
+    stopped = sym (same_stopped line.note.holder report.stops flagged.stops same.stops) ∙ f.stopped;
     need = f.need;
     cells = rw same.journal f.cells;
     least = f.least;
@@ -170,14 +170,14 @@ module _ {Op Reply : Type 0} (life : Life Op) (told flagged : LifeRecord Reply) 
   }
 
   -- and so does what the clients came to
-  pub still_ended : IsEnded life told → IsEnded life flagged
+  pub still_ended : IsEnded life report → IsEnded life flagged
   still_ended e = record {
     tickets = rw (same.journal, same.from) e.tickets;
     interleaved = rw same.journal e.interleaved;
     reads_in_order = rw same.reads e.reads_in_order;
     stops_in_order = rises_pairs (λ (x : StopLine). x.client) flagged.stops
-        (zip_rises IsSameStop (λ (x : StopLine). x.client) (λ (x : StopLine). x.client) (λ a b s. s.client) told.stops flagged.stops same.stops
-        (pairs_rise (λ (x : StopLine). x.client) told.stops e.stops_in_order));
+        (zip_rises IsSameStop (λ (x : StopLine). x.client) (λ (x : StopLine). x.client) (λ a b s. s.client) report.stops flagged.stops same.stops
+        (pairs_rise (λ (x : StopLine). x.client) report.stops e.stops_in_order));
     fulls_in_order = rw same.fulls e.fulls_in_order;
     ended = λ client below. ended_flagged client (e.ended client below);
     stops = stops_flagged (IsLegalStop life)
@@ -186,6 +186,6 @@ module _ {Op Reply : Type 0} (life : Life Op) (told flagged : LifeRecord Reply) 
           steps = rw (s.client, s.steps) was.steps;
           limit = rw s.steps was.limit;
         })
-        told.stops flagged.stops same.stops e.stops;
-    fulls = subst (All (IsLegalFull life flagged)) (sym same.fulls) (All-weaker (IsLegalFull life told) (IsLegalFull life flagged) full_flagged told.fulls e.fulls);
+        report.stops flagged.stops same.stops e.stops;
+    fulls = subst (All (IsLegalFull life flagged)) (sym same.fulls) (All-weaker (IsLegalFull life report) (IsLegalFull life flagged) full_flagged report.fulls e.fulls);
   }

@@ -59,7 +59,7 @@ module _ {Op Reply : Type 0} (encoding : Encoding Op Reply) (life : Life Op) (lo
   es_by = zip_all (IsLineOf encoding life n l.answered stop) (λ (x : JournalLine Reply). x.client ≡ n) (λ a b r. r.client_is) l.own es w.entry_lines
 
   rs_by : Each (λ (x : ReadLine Reply). x.client ≡ n) rs
-  rs_by = zip_all (IsReadLine encoding life n) (λ (x : ReadLine Reply). x.client ≡ n) (λ a b r. r.client_is) w.read_lines.told rs w.read_lines.lines_are
+  rs_by = zip_all (IsReadLine encoding life n) (λ (x : ReadLine Reply). x.client ≡ n) (λ a b r. r.client_is) w.read_lines.reported rs w.read_lines.lines_are
 
   ss_by : Each (λ (x : StopLine). x.client ≡ n) (option_to_list stop)
   ss_by = stop_by life n w.done l stop full w.ends

@@ -145,9 +145,9 @@ module _ {Op Reply : Type 0} (encoding : Encoding Op Reply) (life : Life Op) (pl
       }
 
   -- and a record of them is told by the history
-  pub journal_told : All (λ (line : FullLine). is_stopped line.note.holder stops ≡ true) fulls → (told : LifeRecord Reply) → IsRecordOf place locals journal reads stops fulls told → length locals ≡ life.clients →
-      ((client : ℕ) (l : Local) → slice_get locals client ≡ Some l → l.limit ≡ limit_in client life.cuts) → IsTold encoding life place history locals told
-  journal_told stopped told is callers limits = record {
+  pub report_is_told : All (λ (line : FullLine). is_stopped line.note.holder stops ≡ true) fulls → (report : LifeRecord Reply) → IsRecordOf place locals journal reads stops fulls report → length locals ≡ life.clients →
+      ((client : ℕ) (l : Local) → slice_get locals client ≡ Some l → l.limit ≡ limit_in client life.cuts) → IsTold encoding life place history locals report
+  report_is_told stopped report is callers limits = record {
     clients = is.clients;
     callers = callers;
     limits = limits;

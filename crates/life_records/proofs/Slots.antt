@@ -77,28 +77,28 @@ module _ {Op Reply Store : Type 0} (t : TypedSteps Op Reply Store) {most : ℕ} 
         let there : slice_get (own_of entry.caller base.place (entry ∷ history)) 0 ≡ Some first = ap (λ (o : List Linked). slice_get o 0) (own_mine entry.caller base.place entry history refl) in
         omega (arith, numbered.numbers entry.caller (numbered.callers 0 entry refl) 0 first there)
 
-    abbrev Told : (ℕ × List ℕ) → ℕ → Type 0
-    Told result client = (slot_number client next.words ≡ result.0) × (slot_reply client next.words ≡ result.1)
+    abbrev HasResult : (ℕ × List ℕ) → ℕ → Type 0
+    HasResult result client = (slot_number client next.words ≡ result.0) × (slot_reply client next.words ≡ result.1)
 
-    own_result : (client : ℕ) → client ≡ line.client → client < 8 → Told ((begun.results client).0 + 1, words_to t.meaning begun.store (named_op life line.client line.command)) client
+    own_result : (client : ℕ) → client ≡ line.client → client < 8 → HasResult ((begun.results client).0 + 1, words_to t.meaning begun.store (named_op life line.client line.command)) client
     own_result client same below =
         let caller = same ∙ mine in (
           ap (λ c. slot_number c next.words) caller ∙ kept.number ∙ number_is ∙ ap (λ c. slot_number c base.words + 1) (sym caller) ∙ ap (λ n. n + 1) (is.numbers client below),
           ap (λ c. slot_reply c next.words) caller ∙ kept.reply ∙ done.answer ∙ ap (words_to t.meaning begun.store) (sym has.named),
         )
 
-    other_result : (client : ℕ) → client ≢ line.client → client < 8 → Told (begun.results client) client
+    other_result : (client : ℕ) → client ≢ line.client → client < 8 → HasResult (begun.results client) client
     other_result client other below = elim (cases_order client entry.caller) [
       | inl same ↦ absurd (other (same ∙ sym mine))
       | inr apart ↦ (let stay = kept.others client below apart in (stay.0 ∙ is.numbers client below, stay.1 ∙ is.replies client below))
     ]
 
-    result_is : (client : ℕ) → client < 8 → Told (with_result t.meaning begun.store life line begun.results client) client
+    result_is : (client : ℕ) → client < 8 → HasResult (with_result t.meaning begun.store life line begun.results client) client
     result_is client below =
         let own : ℕ × List ℕ = ((begun.results client).0 + 1, words_to t.meaning begun.store (named_op life line.client line.command)) in
         elim (cases_eq client line.client) [
-          | inl same ↦ subst (λ b. Told (cond b own (begun.results client)) client) (sym (eq-eqb client line.client same)) (own_result client same below)
-          | inr other ↦ subst (λ b. Told (cond b own (begun.results client)) client) (sym (ne_eqb client line.client other)) (other_result client other below)
+          | inl same ↦ subst (λ b. HasResult (cond b own (begun.results client)) client) (sym (eq-eqb client line.client same)) (own_result client same below)
+          | inr other ↦ subst (λ b. HasResult (cond b own (begun.results client)) client) (sym (ne_eqb client line.client other)) (other_result client other below)
         ]
 
     pub next_is : IsBaseOf t.meaning next begun_next

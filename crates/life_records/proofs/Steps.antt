@@ -109,9 +109,9 @@ module _ {Op Reply Store : Type 0} (t : TypedSteps Op Reply Store) where
           let e = item_below history i (omega (arith, are.long)) in
           let has = are.words i line e.0 at e.1 in
           let same : has.op ≡ op = same_Some has.op op (sym has.named ∙ named) in
-          let told = λ (n : ℕ) (o : Option Entry). option_map (λ (x : Entry). (t.step (image_after t.step image (take n history)) x.op).1) o in
-          ap (λ n. told n (slice_get history n)) away
-          ∙ ap (told i) e.1
+          let reply_of = λ (n : ℕ) (o : Option Entry). option_map (λ (x : Entry). (t.step (image_after t.step image (take n history)) x.op).1) o in
+          ap (λ n. reply_of n (slice_get history n)) away
+          ∙ ap (reply_of i) e.1
           ∙ ap Some (answer_to i has.op e.0.op (omega (arith, are.long)) (op_is line.client line.command e.0.op has)
           ∙ ap (λ o. m.encoding.reply_words (m.reply_to (store_at m store life journal i) o)) same)
 

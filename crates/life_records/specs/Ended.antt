@@ -7,15 +7,15 @@ use Rattle.life_records.specs.Lives.{HasEnded, Interleaves, IsFullBefore, IsKept
 -- What a legal life says of its clients' commands: one history, that interleaves them; lines in their order; each command answered
 -- once, up to its client's end; and clients that were stopped at their limits. Replies and places are not looked at, nor which
 -- stop lines are kept.
-pub record IsEnded {Op Reply : Type 0} (life : Life Op) (told : LifeRecord Reply) : Type 0 where
-  pub tickets : (i : ℕ) (line : JournalLine Reply) → slice_get told.journal i ≡ Some line → line.ticket ≡ told.from + i
-  pub interleaved : Interleaves life told.journal
-  pub reads_in_order : AllPairs IsReadBefore told.reads
-  pub stops_in_order : AllPairs IsStopBefore told.stops
-  pub fulls_in_order : AllPairs IsFullBefore told.fulls
-  pub ended : (client : ℕ) → client < life.clients → HasEnded life told client
-  pub stops : All (IsLegalStop life) told.stops
-  pub fulls : All (IsLegalFull life told) told.fulls
+pub record IsEnded {Op Reply : Type 0} (life : Life Op) (report : LifeRecord Reply) : Type 0 where
+  pub tickets : (i : ℕ) (line : JournalLine Reply) → slice_get report.journal i ≡ Some line → line.ticket ≡ report.from + i
+  pub interleaved : Interleaves life report.journal
+  pub reads_in_order : AllPairs IsReadBefore report.reads
+  pub stops_in_order : AllPairs IsStopBefore report.stops
+  pub fulls_in_order : AllPairs IsFullBefore report.fulls
+  pub ended : (client : ℕ) → client < life.clients → HasEnded life report client
+  pub stops : All (IsLegalStop life) report.stops
+  pub fulls : All (IsLegalFull life report) report.fulls
 
 -- a stop as the other one but for its kept flag
 pub record IsSameStop (a b : StopLine) : Type 0 where
@@ -24,13 +24,13 @@ pub record IsSameStop (a b : StopLine) : Type 0 where
   pub steps : b.steps ≡ a.steps
 
 -- a record as the other one but for the kept flags, the numbers of entries kept and of items, and the choice
-pub record IsSameButKept {Reply : Type 0} (told flagged : LifeRecord Reply) : Type 0 where
-  pub clients : flagged.clients ≡ told.clients
-  pub from : flagged.from ≡ told.from
-  pub journal : flagged.journal ≡ told.journal
-  pub reads : flagged.reads ≡ told.reads
-  pub stops : AllZip IsSameStop told.stops flagged.stops
-  pub fulls : flagged.fulls ≡ told.fulls
+pub record IsSameButKept {Reply : Type 0} (report flagged : LifeRecord Reply) : Type 0 where
+  pub clients : flagged.clients ≡ report.clients
+  pub from : flagged.from ≡ report.from
+  pub journal : flagged.journal ≡ report.journal
+  pub reads : flagged.reads ≡ report.reads
+  pub stops : AllZip IsSameStop report.stops flagged.stops
+  pub fulls : flagged.fulls ≡ report.fulls
 
 -- the kept flag says whether the stopped command has an entry that is kept
 abbrev pub IsFlagged : {Reply : Type 0} → ℕ → ℕ → List (JournalLine Reply) → StopLine → Type 0

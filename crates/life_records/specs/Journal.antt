@@ -11,10 +11,10 @@ pub record IsByTicket {Reply : Type 0} (entries journal : List (JournalLine Repl
 
 -- the record of a life that began at a place, with these lines of its clients
 pub record IsRecordOf {Reply : Type 0} (place : ℕ) (locals : List Local) (journal : List (JournalLine Reply)) (reads : List (ReadLine Reply)) (stops : List StopLine)
-    (fulls : List FullLine) (told : LifeRecord Reply) : Type 0 where
-  pub clients : told.clients ≡ length locals
-  pub from : told.from ≡ place
-  pub journal_is : told.journal ≡ journal
-  pub reads_are : told.reads ≡ reads
-  pub stops_are : told.stops ≡ stops
-  pub fulls_are : told.fulls ≡ fulls
+    (fulls : List FullLine) (report : LifeRecord Reply) : Type 0 where
+  pub clients : report.clients ≡ length locals
+  pub from : report.from ≡ place
+  pub journal_is : report.journal ≡ journal
+  pub reads_are : report.reads ≡ reads
+  pub stops_are : report.stops ≡ stops
+  pub fulls_are : report.fulls ≡ fulls

@@ -108,15 +108,15 @@ IsEndedEntry client answered stops line =
 
 -- How a client ended. Each of its commands up to a number has exactly one answer, in the history or beside it. They are all
 -- that it has, or it was stopped in the next one or ended Full in it. No other command has a line.
-pub record HasEnded {Op Reply : Type 0} (life : Life Op) (told : LifeRecord Reply) (client : ℕ) : Type 0 where
+pub record HasEnded {Op Reply : Type 0} (life : Life Op) (report : LifeRecord Reply) (client : ℕ) : Type 0 where
   pub answered : ℕ
   pub within : answered ≤ length (own_ops client life.commands)
-  pub once : (command : ℕ) → 1 ≤ command → command ≤ answered → count_to client command (answers_of told.journal told.reads) ≡ 1
-  pub entries : All (λ line. line.client ≡ client → IsEndedEntry client answered told.stops line) told.journal
-  pub reads : All (λ line. line.client ≡ client → (1 ≤ line.command) × (line.command ≤ answered)) told.reads
-  pub stops : All (λ line. line.client ≡ client → line.command ≡ answered + 1) told.stops
-  pub fulls : All (λ line. line.client ≡ client → line.command ≡ answered + 1) told.fulls
-  pub over : (answered ≡ length (own_ops client life.commands)) ⊎ ((has_stop client (answered + 1) told.stops ≡ true) ⊎ (has_full client (answered + 1) told.fulls ≡ true))
+  pub once : (command : ℕ) → 1 ≤ command → command ≤ answered → count_to client command (answers_of report.journal report.reads) ≡ 1
+  pub entries : All (λ line. line.client ≡ client → IsEndedEntry client answered report.stops line) report.journal
+  pub reads : All (λ line. line.client ≡ client → (1 ≤ line.command) × (line.command ≤ answered)) report.reads
+  pub stops : All (λ line. line.client ≡ client → line.command ≡ answered + 1) report.stops
+  pub fulls : All (λ line. line.client ≡ client → line.command ≡ answered + 1) report.fulls
+  pub over : (answered ≡ length (own_ops client life.commands)) ⊎ ((has_stop client (answered + 1) report.stops ≡ true) ⊎ (has_full client (answered + 1) report.fulls ≡ true))
 
 -- A client was stopped in a command that it has, at the limit that its cut line gives it.
 pub record IsLegalStop {Op : Type 0} (life : Life Op) (line : StopLine) : Type 0 where
@@ -130,37 +130,37 @@ is_answered_from client ticket line = (line.client == client) && (is_some line.r
 
 -- A client ended Full in a command that it has. Another client, which was stopped, needs a ticket at or below the one named, and all 16
 -- cells of the client hold answered entries from that ticket on, one of them at it.
-pub record IsLegalFull {Op Reply : Type 0} (life : Life Op) (told : LifeRecord Reply) (line : FullLine) : Type 0 where
+pub record IsLegalFull {Op Reply : Type 0} (life : Life Op) (report : LifeRecord Reply) (line : FullLine) : Type 0 where
   pub named : Names life line.client line.command
   pub other : line.note.holder ≢ line.client
-  pub stopped : is_stopped line.note.holder told.stops ≡ true
+  pub stopped : is_stopped line.note.holder report.stops ≡ true
   pub need : line.note.need ≤ line.note.ticket
-  pub cells : 16 ≤ count_by (is_answered_from line.client line.note.ticket) told.journal
+  pub cells : 16 ≤ count_by (is_answered_from line.client line.note.ticket) report.journal
   pub least : JournalLine Reply
-  pub there : Contains told.journal least
+  pub there : Contains report.journal least
   pub own : least.client ≡ line.client
   pub at : least.ticket ≡ line.note.ticket
   pub answered : IsSome least.reply
 
 -- What happened in a life that began at a place with a store.
-pub record IsLegal {Op Reply Store : Type 0} (m : Meaning Op Reply Store) (place : ℕ) (store : Store) (life : Life Op) (told : LifeRecord Reply) : Type 0 where
+pub record IsLegal {Op Reply Store : Type 0} (m : Meaning Op Reply Store) (place : ℕ) (store : Store) (life : Life Op) (report : LifeRecord Reply) : Type 0 where
   -- one history, that interleaves the clients' commands
-  pub tickets : (i : ℕ) (line : JournalLine Reply) → slice_get told.journal i ≡ Some line → line.ticket ≡ place + i
-  pub interleaved : Interleaves life told.journal
+  pub tickets : (i : ℕ) (line : JournalLine Reply) → slice_get report.journal i ≡ Some line → line.ticket ≡ place + i
+  pub interleaved : Interleaves life report.journal
   -- the other lines stand in their order
-  pub reads_in_order : AllPairs IsReadBefore told.reads
-  pub stops_in_order : AllPairs IsStopBefore told.stops
-  pub fulls_in_order : AllPairs IsFullBefore told.fulls
+  pub reads_in_order : AllPairs IsReadBefore report.reads
+  pub stops_in_order : AllPairs IsStopBefore report.stops
+  pub fulls_in_order : AllPairs IsFullBefore report.fulls
   -- each command is answered once, up to the client's end
-  pub ended : (client : ℕ) → client < life.clients → HasEnded life told client
-  pub stops : All (IsLegalStop life) told.stops
-  pub fulls : All (IsLegalFull life told) told.fulls
+  pub ended : (client : ℕ) → client < life.clients → HasEnded life report client
+  pub stops : All (IsLegalStop life) report.stops
+  pub fulls : All (IsLegalFull life report) report.fulls
   -- each reply is the one-thread store's at its place
-  pub replies : (i : ℕ) (line : JournalLine Reply) → slice_get told.journal i ≡ Some line →
-      IfSome line.reply (HasReply m (store_at m store life told.journal i) (named_op life line.client line.command))
-  pub legal_reads : All (IsLegalRead m place store life told.journal) told.reads
+  pub replies : (i : ℕ) (line : JournalLine Reply) → slice_get report.journal i ≡ Some line →
+      IfSome line.reply (HasReply m (store_at m store life report.journal i) (named_op life line.client line.command))
+  pub legal_reads : All (IsLegalRead m place store life report.journal) report.reads
   -- no answer to a client lies below what the client was told before
-  pub in_turn : (a b : ClientAnswer) → Contains (answers_of told.journal told.reads) a → Contains (answers_of told.journal told.reads) b →
+  pub in_turn : (a b : ClientAnswer) → Contains (answers_of report.journal report.reads) a → Contains (answers_of report.journal report.reads) b →
       a.client ≡ b.client → a.command < b.command → a.next ≤ b.at
 
 -- the command in which a client was stopped has an entry that is kept
@@ -172,26 +172,26 @@ pub record IsKeptStop {Reply : Type 0} (place kept : ℕ) (journal : List (Journ
   pub below : entry.ticket < place + kept
 
 -- What survives the crash: a prefix of the history that holds everything answered.
-pub record IsPrefixKept {Op Reply Store : Type 0} (m : Meaning Op Reply Store) (place : ℕ) (store : Store) (life : Life Op) (told : LifeRecord Reply) : Type 0 where
-  pub prefix : told.kept ≤ length told.journal
-  pub answered : All (λ a. a.next ≤ place + told.kept) (answers_of told.journal told.reads)
-  pub stops : All (λ line. (line.kept ≡ true) ↔ IsKeptStop place told.kept told.journal line) told.stops
-  pub items : told.items ≡ m.items (store_at m store life told.journal told.kept)
+pub record IsPrefixKept {Op Reply Store : Type 0} (m : Meaning Op Reply Store) (place : ℕ) (store : Store) (life : Life Op) (report : LifeRecord Reply) : Type 0 where
+  pub prefix : report.kept ≤ length report.journal
+  pub answered : All (λ a. a.next ≤ place + report.kept) (answers_of report.journal report.reads)
+  pub stops : All (λ line. (line.kept ≡ true) ↔ IsKeptStop place report.kept report.journal line) report.stops
+  pub items : report.items ≡ m.items (store_at m store life report.journal report.kept)
 
 -- a record of a life that begins at a place with a store
-pub record IsLegalLife {Op Reply Store : Type 0} (m : Meaning Op Reply Store) (place : ℕ) (store : Store) (life : Life Op) (told : LifeRecord Reply) : Type 0 where
-  pub clients : told.clients ≡ life.clients
-  pub choice : told.choice ≡ life.choice
-  pub from : told.from ≡ place
-  pub legal : IsLegal m place store life told
-  pub kept : IsPrefixKept m place store life told
+pub record IsLegalLife {Op Reply Store : Type 0} (m : Meaning Op Reply Store) (place : ℕ) (store : Store) (life : Life Op) (report : LifeRecord Reply) : Type 0 where
+  pub clients : report.clients ≡ life.clients
+  pub choice : report.choice ≡ life.choice
+  pub from : report.from ≡ place
+  pub legal : IsLegal m place store life report
+  pub kept : IsPrefixKept m place store life report
 
 -- records of lives, the first of which begins at a place with a store, and each next one with what was kept
 abbrev pub AreLivesFrom : {Op Reply Store : Type 0} → Meaning Op Reply Store → ℕ → Store → List (Life Op) → List (LifeRecord Reply) → Type 0
 AreLivesFrom m place store [] [] = Unit {0}
-AreLivesFrom m place store (life ∷ lives) (told ∷ records) =
-    IsLegalLife m place store life told
-    × AreLivesFrom m (place + told.kept) (store_at m store life told.journal told.kept) lives records
+AreLivesFrom m place store (life ∷ lives) (report ∷ records) =
+    IsLegalLife m place store life report
+    × AreLivesFrom m (place + report.kept) (store_at m store life report.journal report.kept) lives records
 AreLivesFrom m place store _ _ = ⊥
 
 -- the records are legal lives of the script, from place 0 and the empty store on
@@ -199,14 +199,14 @@ abbrev pub AreLegalLives : {Op Reply Store : Type 0} → Meaning Op Reply Store 
 AreLegalLives m script records = AreLivesFrom m 0 m.opening script.lives records
 
 -- the lines of a record name commands of the life
-pub record NamesCommands {Op Reply : Type 0} (life : Life Op) (told : LifeRecord Reply) : Type 0 where
-  pub journal : All (λ line. Names life line.client line.command) told.journal
-  pub reads : All (λ line. Names life line.client line.command) told.reads
+pub record NamesCommands {Op Reply : Type 0} (life : Life Op) (report : LifeRecord Reply) : Type 0 where
+  pub journal : All (λ line. Names life line.client line.command) report.journal
+  pub reads : All (λ line. Names life line.client line.command) report.reads
 
 -- there is a record for each life, and its lines name commands of the life
 abbrev pub NameCommands : {Op Reply : Type 0} → List (Life Op) → List (LifeRecord Reply) → Type 0
 NameCommands [] [] = Unit {0}
-NameCommands (life ∷ lives) (told ∷ records) = NamesCommands life told × NameCommands lives records
+NameCommands (life ∷ lives) (report ∷ records) = NamesCommands life report × NameCommands lives records
 NameCommands _ _ = ⊥
 
 -- a number of 64 bits, as each is in a value of the type
@@ -214,17 +214,17 @@ abbrev pub FitsWord : ℕ → Type 0
 FitsWord n = n < 2 ^ 64
 
 -- the numbers of a record are within 64 bits, as they are in each value of the type
-pub record HasNumbers {Reply : Type 0} (told : LifeRecord Reply) : Type 0 where
-  pub clients : FitsWord told.clients
-  pub from : FitsWord told.from
-  pub choice : FitsWord told.choice
-  pub kept : FitsWord told.kept
-  pub items : FitsWord told.items
-  pub entries : FitsWord (length told.journal)
-  pub journal : All (λ line. FitsWord line.ticket × FitsWord line.client × FitsWord line.command) told.journal
-  pub reads : All (λ line. FitsWord line.client × FitsWord line.command × FitsWord line.place) told.reads
-  pub stops : All (λ line. FitsWord line.client × FitsWord line.command × FitsWord line.steps) told.stops
-  pub fulls : All (λ line. FitsWord line.client × FitsWord line.command × FitsWord line.note.holder × FitsWord line.note.need × FitsWord line.note.ticket) told.fulls
+pub record HasNumbers {Reply : Type 0} (report : LifeRecord Reply) : Type 0 where
+  pub clients : FitsWord report.clients
+  pub from : FitsWord report.from
+  pub choice : FitsWord report.choice
+  pub kept : FitsWord report.kept
+  pub items : FitsWord report.items
+  pub entries : FitsWord (length report.journal)
+  pub journal : All (λ line. FitsWord line.ticket × FitsWord line.client × FitsWord line.command) report.journal
+  pub reads : All (λ line. FitsWord line.client × FitsWord line.command × FitsWord line.place) report.reads
+  pub stops : All (λ line. FitsWord line.client × FitsWord line.command × FitsWord line.steps) report.stops
+  pub fulls : All (λ line. FitsWord line.client × FitsWord line.command × FitsWord line.note.holder × FitsWord line.note.need × FitsWord line.note.ticket) report.fulls
 
 abbrev pub AreNumbers : {Reply : Type 0} → List (LifeRecord Reply) → Type 0
 AreNumbers records = All HasNumbers records

@@ -24,21 +24,21 @@ pub record IsToldFull (locals : List Local) (stops : List StopLine) (line : Full
   pub stopped : is_stopped line.note.holder stops ≡ true
 
 -- The record of a life is told by a history that began at a place, and by these local states.
-pub record IsTold {Op Reply : Type 0} (encoding : Encoding Op Reply) (life : Life Op) (place : ℕ) (history : List Entry) (locals : List Local) (told : LifeRecord Reply) : Type 0 where
+pub record IsTold {Op Reply : Type 0} (encoding : Encoding Op Reply) (life : Life Op) (place : ℕ) (history : List Entry) (locals : List Local) (report : LifeRecord Reply) : Type 0 where
   -- one caller for each client, whose limit is the client's cut
-  pub clients : told.clients ≡ length locals
+  pub clients : report.clients ≡ length locals
   pub callers : length locals ≡ life.clients
   pub limits : (client : ℕ) (l : Local) → slice_get locals client ≡ Some l → l.limit ≡ limit_in client life.cuts
-  pub from : told.from ≡ place
+  pub from : report.from ≡ place
   -- each entry of the history is of one of these callers
   pub of_callers : (i : ℕ) (entry : Entry) → slice_get history i ≡ Some entry → entry.caller < length locals
   -- one line for each entry of the history, at its ticket: of its caller, with the words of the line's command, and with the reply
   -- that was answered there, or none where the command was stopped
-  pub long : length told.journal ≡ length history
-  pub tickets : (i : ℕ) (line : JournalLine Reply) → slice_get told.journal i ≡ Some line → line.ticket ≡ place + i
-  pub entries : (i : ℕ) (line : JournalLine Reply) (entry : Entry) (l : Local) → slice_get told.journal i ≡ Some line → slice_get history i ≡ Some entry → slice_get locals entry.caller ≡ Some l →
-      IsLineOf encoding life entry.caller l.answered (stop_of entry.caller told.stops) (record { ticket = place + i; entry = entry }) line
+  pub long : length report.journal ≡ length history
+  pub tickets : (i : ℕ) (line : JournalLine Reply) → slice_get report.journal i ≡ Some line → line.ticket ≡ place + i
+  pub entries : (i : ℕ) (line : JournalLine Reply) (entry : Entry) (l : Local) → slice_get report.journal i ≡ Some line → slice_get history i ≡ Some entry → slice_get locals entry.caller ≡ Some l →
+      IsLineOf encoding life entry.caller l.answered (stop_of entry.caller report.stops) (record { ticket = place + i; entry = entry }) line
   -- the reads are those that the callers saw, but for one of a command that was stopped
-  pub reads : (client : ℕ) (l : Local) → slice_get locals client ≡ Some l → AreReadLines encoding life client (stop_of client told.stops) l.seen_reads (filter (by_read client) told.reads)
-  pub stops : All (IsToldStop locals) told.stops
-  pub fulls : All (IsToldFull locals told.stops) told.fulls
+  pub reads : (client : ℕ) (l : Local) → slice_get locals client ≡ Some l → AreReadLines encoding life client (stop_of client report.stops) l.seen_reads (filter (by_read client) report.reads)
+  pub stops : All (IsToldStop locals) report.stops
+  pub fulls : All (IsToldFull locals report.stops) report.fulls

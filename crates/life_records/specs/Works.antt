@@ -59,10 +59,10 @@ pub record IsStoppedRead {Op Reply : Type 0} (encoding : Encoding Op Reply) (lif
 
 -- The lines are those of the caller's reads, but for one at the most, after them, whose command was stopped.
 pub record AreReadLines {Op Reply : Type 0} (encoding : Encoding Op Reply) (life : Life Op) (client : ℕ) (stop : Option StopLine) (seen : List SeenRead) (lines : List (ReadLine Reply)) : Type 0 where
-  pub told : List SeenRead
+  pub reported : List SeenRead
   pub left : List SeenRead
-  pub are : seen ≡ told ++ left
-  pub lines_are : AllZip (IsReadLine encoding life client) told lines
+  pub are : seen ≡ reported ++ left
+  pub lines_are : AllZip (IsReadLine encoding life client) reported lines
   pub few : length left ≤ 1
   pub stopped : All (IsStoppedRead encoding life client stop) left
 
@@ -138,7 +138,7 @@ pub record IsWork {Op Reply : Type 0} (encoding : Encoding Op Reply) (life : Lif
   pub by : l.number ≡ client
   pub entry_lines : AllZip (IsLineOf encoding life client l.answered stop) l.own entries
   pub read_lines : AreReadLines encoding life client stop l.seen_reads reads
-  pub between : AllZip (StandsBetween entries) read_lines.told reads
+  pub between : AllZip (StandsBetween entries) read_lines.reported reads
   pub entries_in_turn : AllPairs IsEntryBefore entries
   pub reads_in_turn : AllPairs IsSeenBefore reads
   pub done : ℕ

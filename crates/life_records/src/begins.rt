@@ -27,12 +27,12 @@ pub fn fresh_bases_begin_with_nothing<O: TypedObject>(object: &O, base: &Base)
 /// and of each client with the count of its entries and the reply to the last of them.
 pub fn kept_bases_begin_the_next_life<O: TypedObject>(object: &O, base: &Base)
     requires { LawfulBase (O.line_count object.now) (O.lawful object.now) base.now }
-    ensures { (callers : ℕ) (s : State) (begun : Begun O.Store) (life : Life O.Op) (told : LifeRecord O.Reply) (next : entry_base.Base)
+    ensures { (callers : ℕ) (s : State) (begun : Begun O.Store) (life : Life O.Op) (report : LifeRecord O.Reply) (next : entry_base.Base)
         (law : Lawful (object_instance (O.step object.now) (O.only_reads object.now) callers base.now) s) →
         IsBaseOf (O.meaning object.now) base.now begun →
-        IsRecorded (O.meaning object.now) (object_instance (O.step object.now) (O.only_reads object.now) callers base.now) s law.history begun.store life told →
-        IsKeptIn (O.meaning object.now) (object_instance (O.step object.now) (O.only_reads object.now) callers base.now) s law.history told next →
-        IsBaseOf (O.meaning object.now) next (begun_after (O.meaning object.now) begun life told.journal told.kept) }
+        IsRecorded (O.meaning object.now) (object_instance (O.step object.now) (O.only_reads object.now) callers base.now) s law.history begun.store life report →
+        IsKeptIn (O.meaning object.now) (object_instance (O.step object.now) (O.only_reads object.now) callers base.now) s law.history report next →
+        IsBaseOf (O.meaning object.now) next (begun_after (O.meaning object.now) begun life report.journal report.kept) }
 {
     steps_are_meant(object);
 }

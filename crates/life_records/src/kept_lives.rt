@@ -17,11 +17,11 @@ use typed_object::TypedObject;
 /// of the history that holds everything answered, and stands for the store after it.
 pub fn kept_lives_go_on<O: TypedObject>(object: &O, base: &Base)
     requires { LawfulBase (O.line_count object.now) (O.lawful object.now) base.now }
-    ensures { (callers : ℕ) (s : State) (store : O.Store) (life : Life O.Op) (told : LifeRecord O.Reply) (next : entry_base.Base)
+    ensures { (callers : ℕ) (s : State) (store : O.Store) (life : Life O.Op) (report : LifeRecord O.Reply) (next : entry_base.Base)
         (law : Lawful (object_instance (O.step object.now) (O.only_reads object.now) callers base.now) s) →
-        IsRecorded (O.meaning object.now) (object_instance (O.step object.now) (O.only_reads object.now) callers base.now) s law.history store life told →
-        IsKeptIn (O.meaning object.now) (object_instance (O.step object.now) (O.only_reads object.now) callers base.now) s law.history told next →
-        GoesOn (O.meaning object.now) (O.line_count object.now) (O.lawful object.now) base.now.place store life told next }
+        IsRecorded (O.meaning object.now) (object_instance (O.step object.now) (O.only_reads object.now) callers base.now) s law.history store life report →
+        IsKeptIn (O.meaning object.now) (object_instance (O.step object.now) (O.only_reads object.now) callers base.now) s law.history report next →
+        GoesOn (O.meaning object.now) (O.line_count object.now) (O.lawful object.now) base.now.place store life report next }
 {
     steps_are_meant(object);
 }

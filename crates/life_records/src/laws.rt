@@ -31,26 +31,26 @@ pub fn journals_are_told<Op, Reply>()
     ensures works { (encoding : Encoding Op Reply) (life : Life Op) (place : ℕ) (history locals entries journal reads stops fulls : _) →
         AreWorks encoding life locals entries reads stops fulls → IsHistory place history locals → IsByTicket entries journal →
         AreWorks encoding life locals journal reads stops fulls }
-    ensures told { (encoding : Encoding Op Reply) (life : Life Op) (place : ℕ) (history locals entries journal reads stops fulls : _) →
+    ensures is_told { (encoding : Encoding Op Reply) (life : Life Op) (place : ℕ) (history locals entries journal reads stops fulls : _) →
         AreWorks encoding life locals entries reads stops fulls → IsHistory place history locals → IsByTicket entries journal →
         All (λ line. is_stopped line.note.holder stops ≡ true) fulls →
-        (told : _) → IsRecordOf place locals journal reads stops fulls told → length locals ≡ life.clients →
+        (report : _) → IsRecordOf place locals journal reads stops fulls report → length locals ≡ life.clients →
         ((client : ℕ) (l : _) → slice_get locals client ≡ Some l → l.limit ≡ limit_in client life.cuts) →
-        IsTold encoding life place history locals told }
+        IsTold encoding life place history locals report }
 {}
 
 /// Clients whose lines a history tells have ended: each command is answered once, in order, up to a stop at the client's limit or to
 /// one in which the client ended Full, since a client that was stopped kept its cells.
 pub fn told_lives_have_ended<Op, Reply>()
-    ensures { (encoding : Encoding Op Reply) (life : Life Op) (place : ℕ) (history : List Entry) (locals : List Local) (told : LifeRecord Reply) →
-        AreWorks encoding life locals told.journal told.reads told.stops told.fulls →
-        IsTold encoding life place history locals told → IsEnded life told }
+    ensures { (encoding : Encoding Op Reply) (life : Life Op) (place : ℕ) (history : List Entry) (locals : List Local) (report : LifeRecord Reply) →
+        AreWorks encoding life locals report.journal report.reads report.stops report.fulls →
+        IsTold encoding life place history locals report → IsEnded life report }
 {}
 
 /// What a closed table tells of a record, and how its clients ended, stays when stop lines get their kept flags and the
 /// numbers of entries kept and of items are filled in.
 pub fn flags_may_be_set<Op, Reply>()
-    ensures told { (encoding : Encoding Op Reply) (life : Life Op) (told flagged : LifeRecord Reply) → IsSameButKept told flagged →
-        (place : ℕ) (history locals : _) → IsTold encoding life place history locals told → IsTold encoding life place history locals flagged }
-    ensures ended { (life : Life Op) (told flagged : LifeRecord Reply) → IsSameButKept told flagged → IsEnded life told → IsEnded life flagged }
+    ensures is_told { (encoding : Encoding Op Reply) (life : Life Op) (report flagged : LifeRecord Reply) → IsSameButKept report flagged →
+        (place : ℕ) (history locals : _) → IsTold encoding life place history locals report → IsTold encoding life place history locals flagged }
+    ensures ended { (life : Life Op) (report flagged : LifeRecord Reply) → IsSameButKept report flagged → IsEnded life report → IsEnded life flagged }
 {}

@@ -16,10 +16,10 @@ use typed_object::TypedObject;
 /// no answer to a client lies below what the client was told before.
 pub fn replies_are_the_stores<O: TypedObject>(object: &O, base: &Base)
     requires { LawfulBase (O.line_count object.now) (O.lawful object.now) base.now }
-    ensures { (callers : ℕ) (s : State) (store : O.Store) (life : Life O.Op) (told : LifeRecord O.Reply)
+    ensures { (callers : ℕ) (s : State) (store : O.Store) (life : Life O.Op) (report : LifeRecord O.Reply)
         (law : Lawful (object_instance (O.step object.now) (O.only_reads object.now) callers base.now) s) →
-        IsRecorded (O.meaning object.now) (object_instance (O.step object.now) (O.only_reads object.now) callers base.now) s law.history store life told →
-        HasReplies (O.meaning object.now) base.now.place store life told }
+        IsRecorded (O.meaning object.now) (object_instance (O.step object.now) (O.only_reads object.now) callers base.now) s law.history store life report →
+        HasReplies (O.meaning object.now) base.now.place store life report }
 {
     steps_are_meant(object);
 }

@@ -25,11 +25,11 @@ fn commands_are_values<O: TypedObject>(object: &O, commands: &[Command<O::Op>])
 }
 
 /// The replies of a record are values of their type.
-pub fn replies_are_values<O: TypedObject>(object: &O, told: &LifeRecord<O::Reply>)
-    ensures { HasReplyValues (O.meaning object.now) told.now }
+pub fn replies_are_values<O: TypedObject>(object: &O, report: &LifeRecord<O::Reply>)
+    ensures { HasReplyValues (O.meaning object.now) report.now }
 {
-    entries_have_values(object, told.journal.as_slice());
-    reads_have_values(object, told.reads.as_slice());
+    entries_have_values(object, report.journal.as_slice());
+    reads_have_values(object, report.reads.as_slice());
 }
 
 /// The replies of journal lines are values of the object's type.

@@ -60,15 +60,15 @@ module _ {Op Reply : Type 0} where
 
   -- the lines of one life
   abbrev pub record_text : Wording Op Reply → ℕ → Life Op → LifeRecord Reply → List ℕ
-  record_text w number life told =
-      life_text number told.clients told.from ++ flat_map (journal_text w life) told.journal ++ flat_map (read_text w life) told.reads
-      ++ flat_map stop_text told.stops ++ flat_map full_text told.fulls ++ power_text told.choice told.kept (length told.journal) w.items told.items
+  record_text w number life report =
+      life_text number report.clients report.from ++ flat_map (journal_text w life) report.journal ++ flat_map (read_text w life) report.reads
+      ++ flat_map stop_text report.stops ++ flat_map full_text report.fulls ++ power_text report.choice report.kept (length report.journal) w.items report.items
 
   -- the lines of lives that are counted from a number on
   abbrev pub records_text : Wording Op Reply → ℕ → List (Life Op) → List (LifeRecord Reply) → List ℕ
   records_text w number [] records = []
   records_text w number (life ∷ lives) [] = []
-  records_text w number (life ∷ lives) (told ∷ records) = record_text w number life told ++ records_text w (number + 1) lives records
+  records_text w number (life ∷ lives) (report ∷ records) = record_text w number life report ++ records_text w (number + 1) lives records
 
   -- the report of a script
   abbrev pub report_of : Wording Op Reply → Script Op → List (LifeRecord Reply) → List ℕ

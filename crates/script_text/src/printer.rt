@@ -49,10 +49,10 @@ pub fn report<W: ReportWriter>(
 {
     let mut out = Vec::new(alloc);
     let lives = script.lives.as_slice();
-    for (number, told) in records.iter().enumerate() {
+    for (number, life_report) in records.iter().enumerate() {
         let lent = lives[number].lent();
         let life = IndexedLife::of(alloc, &lent)?;
-        write_record::<W>(&mut out, number as u64, &life, told)?;
+        write_record::<W>(&mut out, number as u64, &life, life_report)?;
     }
     Ok(out)
 }
@@ -62,24 +62,24 @@ fn write_record<W: ReportWriter>(
     out: &mut Vec<u8>,
     number: u64,
     life: &IndexedLife<'_, W::Op>,
-    told: &LifeRecord<W::Reply>,
+    life_report: &LifeRecord<W::Reply>,
 ) -> Result<(), AllocError>
-    requires { NamesCommands life.now told.now }
-    ensures { OnOk result (out.new.items ≡ out.old.items ++ record_text W.wording number life.now told.now) }
+    requires { NamesCommands life.now life_report.now }
+    ensures { OnOk result (out.new.items ≡ out.old.items ++ record_text W.wording number life.now life_report.now) }
 {
-    let journal = told.journal.as_slice();
-    write_life(out, number, told.clients, told.from)?;
+    let journal = life_report.journal.as_slice();
+    write_life(out, number, life_report.clients, life_report.from)?;
     write_journal::<W>(out, life, journal)?;
-    write_reads::<W>(out, life, told.reads.as_slice())?;
-    write_stops(out, told.stops.as_slice())?;
-    write_fulls(out, told.fulls.as_slice())?;
+    write_reads::<W>(out, life, life_report.reads.as_slice())?;
+    write_stops(out, life_report.stops.as_slice())?;
+    write_fulls(out, life_report.fulls.as_slice())?;
     write_power(
         out,
-        told.choice,
-        told.kept,
+        life_report.choice,
+        life_report.kept,
         journal.len() as u64,
         W::items(),
-        told.items,
+        life_report.items,
     )
 }
 

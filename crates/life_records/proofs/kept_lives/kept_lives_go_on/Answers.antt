@@ -6,4 +6,4 @@ pub returns : goal.returns
 returns g c =
     let o = c.args.object.now in
     let t = typed_steps _ _ (g.O.Object.opening o) _ (g.O.Object.only_reads o) (g.O.TypedObject.meaning o) c.steps_are_meant.ensures.object c.steps_are_meant.ensures.means in
-    λ callers s store life told next law is kept. life_goes_on t callers c.args.base.now s store life told c.requires law is next kept
+    λ callers s store life report next law is kept. life_goes_on t callers c.args.base.now s store life report c.requires law is next kept
