@@ -2,7 +2,7 @@
 -- replicas and sixteen cells for each caller. The link code 0 is 'never linked'.
 use Rattle.std.specs.Prelude.{ℕ, ◌+◌, ◌-◌, ◌*◌, ◌/◌, ◌%◌}
 
--- the root code that names a replica at a place, for so many callers
+-- the root code that names a replica at a place, for this number of callers
 abbrev pub root_code_of : ℕ → ℕ → ℕ → ℕ
 root_code_of callers place replica = place * (2 * callers) + replica
 
@@ -14,7 +14,7 @@ root_place_of callers code = code / (2 * callers)
 abbrev pub root_replica_of : ℕ → ℕ → ℕ
 root_replica_of callers code = code % (2 * callers)
 
--- the link code that names a cell with a ticket, for so many callers; it is above 0
+-- the link code that names a cell with a ticket, for this number of callers; it is above 0
 abbrev pub link_code_of : ℕ → ℕ → ℕ → ℕ
 link_code_of callers ticket cell = ticket * (16 * callers) + cell + 1
 
