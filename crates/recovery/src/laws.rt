@@ -18,8 +18,8 @@ ghost use Rattle.recovery.specs.declared.recovered_base.ImageFault.TheVariants.{
 
 use cx_base::Object;
 
-/// The law that recovery refuses nothing that a crash leaves of a lawful state, with any code of the chain as root and any number for each dirty word, but
-/// for want of memory. What recovery gives is the full image of the history after the root's place, which is at or above DUR's place and each answer's.
+/// The law that recovery accepts what a crash leaves of a lawful state, with any code of the chain as root and any number for each dirty word; it may only run
+/// out of memory. What recovery gives is the full image of the history after the root's place, which is at or above DUR's place and each answer's.
 pub fn crash_images_are_accepted<O: Object>()
     ensures { (object : O) (callers : ℕ) (base : _) (s : State) (image : _) (answer : _) →
         let instance : Instance = record { callers = callers; base = base; step = O.step object; reads = O.only_reads object } in
@@ -56,8 +56,8 @@ pub fn crash_images_are_left<O: Object>()
         IsCrashImage (instance_at table O.step O.only_reads) (record { words = leaves.words; locals = leaves.whole }) (crash_of image) }
 {}
 
-/// The law that recovery refuses no image of a closed table, but for want of memory, and that what it gives holds each answer: it is the full image of the
-/// history after the root's place.
+/// The law that recovery accepts each image of a closed table (it may only run out of memory), and that what it gives holds each answer: it is the full image
+/// of the history after the root's place.
 pub fn closed_tables_recover<O: Object>()
     ensures { (table : Running O) (seats : List Seated) (r : _) (choice : ℕ) (image : _) (answer : _) →
         IsOpened O.line_count O.lawful table → ClosingWitness table (instance_at table O.step O.only_reads) seats r → IsLeftOf r choice image →
