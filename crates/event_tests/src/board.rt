@@ -37,12 +37,13 @@ impl Board {
         })
     }
 
-    /// Makes an event, and answers whether it was allowed. `Err` means out of memory.
+    /// Makes an event, and returns whether it was allowed. `Err` means out of memory.
     pub fn step(&mut self, alloc: Global, caller: u32, kind: Kind) -> Result<bool, AllocError> {
         apply(alloc, &Tally, &mut self.state, &Event { caller, kind })
     }
 
-    /// Makes the events of rows up to the first that answers otherwise, and gives its number. `Err` means out of memory.
+    /// Makes the events of rows up to the first that is allowed where its row says that it is not, or the reverse, and returns its
+    /// number. `Err` means out of memory.
     pub fn first_wrong(
         &mut self,
         alloc: Global,
@@ -56,8 +57,8 @@ impl Board {
         Ok(None)
     }
 
-    /// Takes a replica exclusively, stores and persists these words by their places, and downgrades it. Whether all of that
-    /// was allowed. `Err` means out of memory.
+    /// Takes a replica exclusively, stores and persists these words by their places, and downgrades it. It returns
+    /// whether all this was allowed; `Err` means out of memory.
     pub fn prepare(
         &mut self,
         alloc: Global,

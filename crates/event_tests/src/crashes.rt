@@ -3,7 +3,7 @@
 ghost use Rattle.std.specs.Prelude.{◌≡◌, ◌%◌, length};
 
 use crate::board::{Board, Row, holds};
-use crate::facts::{IMAGE_0, IMAGE_1, REGION, Words, are_words};
+use crate::facts::{IMAGE_0, IMAGE_1, REGION, SUM_ADDRESS, SUM_AT, VERSION_AT, Words, are_words};
 use crate::race::{RACE, begins};
 use core_events::CoreState;
 use cx_core::Kind;
@@ -35,7 +35,7 @@ const DIRTY: [Row; 4] = [
         0,
         Kind::StoreWord {
             r: 3,
-            i: 1169,
+            i: SUM_ADDRESS,
             v: 99,
         },
         true,
@@ -43,7 +43,8 @@ const DIRTY: [Row; 4] = [
     (0, Kind::Persist { r: 3, i: 0 }, true),
 ];
 
-// Choices of a loss of power, and what is left by some of the word that is stored there and not persisted.
+// Choices of a loss of power, and the sum of replica 3 that a choice leaves, which is stored and not persisted: the old one, the new one,
+// or one that no row says.
 const CHOICES: [(u64, Option<u64>); 3] = [(0, Some(0)), (1, Some(99)), (7, None)];
 
 // The full image after the second entry, of caller 1, which adds 7.
@@ -53,8 +54,8 @@ const IMAGE_2: Words = &[
     (9, 5),
     (153, 1),
     (154, 12),
-    (1168, 7),
-    (1169, 12),
+    (VERSION_AT, 7),
+    (SUM_AT, 12),
 ];
 
 // What a loss of power leaves of the words of all replicas by this choice: those that the medium has not got are dirty.
@@ -73,7 +74,7 @@ fn left(alloc: Global, vol: &[u64], per: &[u64], choice: u64) -> Result<Vec<u64>
     Ok(left)
 }
 
-// The same of a state; empty where its replicas are no lines.
+// What a loss of power leaves of the words of all replicas of a state by this choice; empty where they are no whole lines.
 fn left_of(alloc: Global, state: &CoreState, choice: u64) -> Result<Vec<u64>, AllocError> {
     let (vol, per) = (state.vol(), state.per());
     if vol.len() != per.len() || per.len() % 8 != 0 {
@@ -109,7 +110,7 @@ fn are_recovered(words: &[u64], chain: &[u64]) -> bool {
 fn is_recovered(alloc: Global, state: &CoreState, chain: &[u64]) -> Result<bool, AllocError> {
     for (choice, dirty) in CHOICES {
         let words = left_of(alloc, state, choice)?;
-        let word = words.get(3 * REGION + 1169).copied();
+        let word = words.get(3 * REGION + SUM_AT).copied();
         if !are_recovered(&words, chain) || (dirty.is_some() && word != dirty) {
             return Ok(false);
         }
@@ -117,7 +118,7 @@ fn is_recovered(alloc: Global, state: &CoreState, chain: &[u64]) -> Result<bool,
     Ok(true)
 }
 
-// The first event of the race that answers otherwise, or after which some image is not recovered.
+// The number of the first event of the race that is not allowed or refused as its row says, or after which some image is not recovered.
 fn first_wrong(alloc: Global, board: &mut Board) -> Result<Option<usize>, AllocError> {
     for (i, ((row, _), chain)) in RACE.iter().zip(CHAINS.iter()).enumerate() {
         if board.step(alloc, row.0, row.1)? != row.2 || !is_recovered(alloc, &board.state, chain)? {
@@ -135,7 +136,7 @@ fn races(alloc: Global, board: &mut Board) -> Result<bool, AllocError> {
     Ok(first_wrong(alloc, board)?.is_none())
 }
 
-// The same from the opening state on.
+// Whether each event of the race of two callers, from the opening state on, is as it is written, with all images recovered after it.
 fn is_safe(alloc: Global) -> Result<bool, AllocError> {
     let mut board = Board::open(alloc, 2)?;
     races(alloc, &mut board)

@@ -1,24 +1,36 @@
 //! What rows say of a board: of its shared words, and of what a caller knows and did.
 
 use crate::board::{Board, Row};
-use cx_core::{Local, Protection, Scan, SeenNeed, SeenOffer, WonCode};
+use cx_core::{Local, OBJECT_START, Protection, Scan, SeenNeed, SeenOffer, WonCode};
 
 /// The words of a region.
 pub const REGION: usize = 1680;
 
+/// The place of the last word of a region, as events have it.
+pub const LAST_ADDRESS: u64 = REGION as u64 - 1;
+
 /// Words of a region by their places; the others are 0.
 pub type Words = &'static [(usize, u64)];
 
+/// The place of Tally's version, which is 7: the first word of the object's part of a region.
+pub const VERSION_AT: usize = OBJECT_START as usize;
+
+/// The place of Tally's sum, behind the version.
+pub const SUM_AT: usize = VERSION_AT + 1;
+
+/// The place of Tally's sum, as events have it.
+pub const SUM_ADDRESS: u64 = OBJECT_START + 1;
+
 /// The full image of the first base.
-pub const IMAGE_0: Words = &[(1168, 7)];
+pub const IMAGE_0: Words = &[(VERSION_AT, 7)];
 
-/// The full image after the first entry of caller 0, which adds 5.
-pub const IMAGE_1: Words = &[(0, 1), (8, 1), (9, 5), (1168, 7), (1169, 5)];
+/// The full image after the first entry of caller 0, which adds 5: the place, this caller's number and its reply, the version and the sum.
+pub const IMAGE_1: Words = &[(0, 1), (8, 1), (9, 5), (VERSION_AT, 7), (SUM_AT, 5)];
 
-/// A row, and what is so after it.
+/// A row, and a fact that holds of the board after its event.
 pub type SeenRow = (Row, Fact);
 
-/// What is so of a board.
+/// A fact of a board, with the values that a row or a part of a script wants.
 #[derive(Clone, Copy)]
 pub enum Fact {
     /// The lock words.
@@ -74,16 +86,16 @@ pub enum Known {
     Refused(&'static [u64]),
     /// The number of entries answered, of reads answered, the greatest code raised by, the floor and the refusals met.
     Counts([u64; 5]),
-    /// The ticket of the first entry answered, with the sum told.
+    /// The ticket of the first entry answered, with the sum of its reply.
     Answered(Option<(u64, u64)>),
-    /// Of a read answered: its place, the sum told, and the entries answered before it.
+    /// Of a read answered, by its number: its place, the sum of its reply, and how many entries were answered before it.
     Read(usize, [u64; 3]),
     /// Its protection, its scan, what the last whole scan found, then the greatest LOW and FREE found, the refusals met, the
     /// scans ended, and whether the code that it found in CUR is of use.
     Scans(Protection, Option<Scan>, Option<SeenNeed>, [u64; 5]),
 }
 
-/// Whether a fact is so.
+/// Whether a fact holds of a board.
 pub fn is_so(board: &Board, fact: &Fact) -> bool {
     match fact {
         Fact::Locks(words) => board.state.lock() == *words,
@@ -107,10 +119,12 @@ pub fn is_so(board: &Board, fact: &Fact) -> bool {
     }
 }
 
+// Whether a word of a list, by its place, is this one.
 fn has_word(words: &[u64], at: usize, word: u64) -> bool {
     words.get(at).copied() == Some(word)
 }
 
+// Whether the first words of a list are these.
 fn begins_with(words: &[u64], first: &[u64]) -> bool {
     words.get(..first.len()) == Some(first)
 }
@@ -131,6 +145,7 @@ pub fn are_words(words: &[u64], given: &[(usize, u64)]) -> bool {
     words.len() == REGION
 }
 
+// The word that a list gives at a place, or 0.
 fn word_at(given: &[(usize, u64)], at: usize) -> u64 {
     for (place, word) in given {
         if *place == at {
@@ -140,12 +155,14 @@ fn word_at(given: &[(usize, u64)], at: usize) -> u64 {
     0
 }
 
+// Whether LOW, FREE and the needs of the first two callers are these words.
 fn is_ring(board: &Board, words: &[u64; 4]) -> bool {
     board.state.low() == words[0]
         && board.state.free() == words[1]
         && begins_with(board.state.need(), &words[2..])
 }
 
+// Whether CUR and DUR are these codes, and the first two callers have won with these.
 fn is_root(board: &Board, codes: &[u64; 2], wins: &[Option<WonCode>; 2]) -> bool {
     board.state.cur() == codes[0]
         && board.state.dur() == codes[1]
@@ -153,6 +170,7 @@ fn is_root(board: &Board, codes: &[u64; 2], wins: &[Option<WonCode>; 2]) -> bool
         && won(board, 1) == wins[1]
 }
 
+// The code that a caller has won with.
 fn won(board: &Board, caller: usize) -> Option<WonCode> {
     match board.state.locals().get(caller) {
         None => None,
@@ -185,6 +203,7 @@ fn is_known(local: &Local, known: &Known) -> bool {
     }
 }
 
+// The ticket of a caller's first entry.
 fn first_ticket(local: &Local) -> Option<u64> {
     match local.own.as_slice().first() {
         None => None,
@@ -192,6 +211,7 @@ fn first_ticket(local: &Local) -> Option<u64> {
     }
 }
 
+// A caller's steps, the refusals that it met, and the replica that it tried last with the word found there.
 fn tried_by(local: &Local) -> [u64; 4] {
     match local.seen_lock {
         None => [local.steps, local.met, 0, 0],
@@ -199,6 +219,7 @@ fn tried_by(local: &Local) -> [u64; 4] {
     }
 }
 
+// The replica that a caller holds exclusively.
 fn exclusive_on(local: &Local) -> Option<u64> {
     match &local.exclusive {
         None => None,
@@ -206,6 +227,7 @@ fn exclusive_on(local: &Local) -> Option<u64> {
     }
 }
 
+// The replica that a caller holds shared.
 fn shared_on(local: &Local) -> Option<u64> {
     match &local.shared {
         None => None,
@@ -213,6 +235,7 @@ fn shared_on(local: &Local) -> Option<u64> {
     }
 }
 
+// The replicas on which a caller has rights: exclusive, shared, a passer's mark and downgraded, and the place of the last one.
 fn rights_of(local: &Local) -> [Option<u64>; 5] {
     let (exclusive, shared) = (exclusive_on(local), shared_on(local));
     match local.downgraded {
@@ -227,6 +250,7 @@ fn rights_of(local: &Local) -> [Option<u64>; 5] {
     }
 }
 
+// Whether a caller has loaded these words, by address, from the replica that it holds shared.
 fn has_loaded(local: &Local, words: &[(u64, u64)]) -> bool {
     match &local.shared {
         None => false,
@@ -234,6 +258,7 @@ fn has_loaded(local: &Local, words: &[(u64, u64)]) -> bool {
     }
 }
 
+// Whether a caller has these dirty addresses and these words in the replica that it holds exclusively.
 fn has_stored(local: &Local, dirty: &[u64], words: Words) -> bool {
     match &local.exclusive {
         None => false,
@@ -241,6 +266,7 @@ fn has_stored(local: &Local, dirty: &[u64], words: Words) -> bool {
     }
 }
 
+// How many entries and reads of a caller were answered, the greatest code that it raised by, its floor, and the refusals that it met.
 fn counts_of(local: &Local) -> [u64; 5] {
     [
         local.answered.len() as u64,
@@ -251,6 +277,7 @@ fn counts_of(local: &Local) -> [u64; 5] {
     ]
 }
 
+// The ticket of a caller's first entry that was answered, and the first word of the reply.
 fn first_answer(local: &Local) -> Option<(u64, u64)> {
     match local.answered.as_slice().first() {
         None => None,
@@ -258,6 +285,7 @@ fn first_answer(local: &Local) -> Option<(u64, u64)> {
     }
 }
 
+// Whether a caller's read with number `i` has this place, this first word of its reply, and this many entries answered before it.
 fn has_read(local: &Local, i: usize, wanted: &[u64; 3]) -> bool {
     match local.seen_reads.as_slice().get(i) {
         None => false,
@@ -265,6 +293,7 @@ fn has_read(local: &Local, i: usize, wanted: &[u64; 3]) -> bool {
     }
 }
 
+// The greatest LOW and FREE that a caller found, the refusals that it met, the scans that it ended, and 1 where its code of CUR is of use, or else 0.
 fn scan_counts(local: &Local) -> [u64; 5] {
     [
         local.seen_low,

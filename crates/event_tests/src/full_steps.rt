@@ -8,7 +8,7 @@ ghost use Rattle.cx_core.specs.History.{full_image};
 ghost use Rattle.cx_core.specs.Step.{full_step_of};
 
 use crate::board::holds;
-use crate::facts::{IMAGE_0, Words, are_words};
+use crate::facts::{IMAGE_0, SUM_AT, VERSION_AT, Words, are_words};
 use cx_base::tally::Tally;
 use cx_base::{Halt, Object, VecMemory};
 use cx_core::{
@@ -26,7 +26,7 @@ fn entry(caller: u32, number: u64, adds: u64, reads: u64) -> Entry {
     Entry { caller, number, op }
 }
 
-// The words after a full step over a memory whose words are all known.
+// The words of a region of Tally after the full step of an entry, with `left` accesses allowed.
 fn stepped(words: Vec<u64>, left: Option<u64>, entry: &Entry) -> Result<Vec<u64>, Halt>
     requires size { length words.items ≡ 1680 }
     requires place { slice_index words.items 0 < 2 ^ 40 }
@@ -48,7 +48,7 @@ fn is_lawful(alloc: Global, words: &[u64]) -> Result<bool, AllocError>
     Tally.check(alloc, image)
 }
 
-// The same on words of a region of Tally. None comes where they are no such.
+// The words after the full step of an entry, or its `Halt`, with `left` accesses allowed; `None` where they are no region of Tally.
 fn step(
     alloc: Global,
     words: Vec<u64>,
@@ -68,15 +68,18 @@ fn step(
 // Caller, number, what an entry adds, whether it reads, and the words after its full step.
 type StepRow = (u32, u64, u64, u64, Words);
 
-// Each step is made on what the one before left.
+// Each step is made on what the one before left. Word 0 is the place. The slot of caller c begins at word 8 + 145 c, with the number of its
+// last entry and the sum that it was answered.
 static STEPS: [StepRow; 4] = [
+    // caller 1 adds 5
     (
         1,
         1,
         5,
         0,
-        &[(0, 1), (153, 1), (154, 5), (1168, 7), (1169, 5)],
+        &[(0, 1), (153, 1), (154, 5), (VERSION_AT, 7), (SUM_AT, 5)],
     ),
+    // caller 0 adds 7
     (
         0,
         1,
@@ -88,10 +91,11 @@ static STEPS: [StepRow; 4] = [
             (9, 12),
             (153, 1),
             (154, 5),
-            (1168, 7),
-            (1169, 12),
+            (VERSION_AT, 7),
+            (SUM_AT, 12),
         ],
     ),
+    // caller 1 reads, so that 9 is not added
     (
         1,
         2,
@@ -103,10 +107,11 @@ static STEPS: [StepRow; 4] = [
             (9, 12),
             (153, 2),
             (154, 12),
-            (1168, 7),
-            (1169, 12),
+            (VERSION_AT, 7),
+            (SUM_AT, 12),
         ],
     ),
+    // caller 7 adds 2^64 - 1, which leaves one less
     (
         7,
         1,
@@ -120,8 +125,8 @@ static STEPS: [StepRow; 4] = [
             (154, 12),
             (1023, 1),
             (1024, 11),
-            (1168, 7),
-            (1169, 11),
+            (VERSION_AT, 7),
+            (SUM_AT, 11),
         ],
     ),
 ];
@@ -151,7 +156,7 @@ fn is_made(alloc: Global, left: u64) -> Result<Option<bool>, AllocError> {
     }
 }
 
-// The first number of accesses left, below this one, with which a first full step halts or is made otherwise. It makes 151
+// The first number of accesses, below `below`, with which a first full step does not halt or succeed as it should. It makes 151
 // accesses: it loads the place, the sum, the number and 144 words of the reply, and stores the sum, the number, the one word of the
 // reply that differs, and the place.
 fn first_other(alloc: Global, below: u64) -> Result<Option<u64>, AllocError> {

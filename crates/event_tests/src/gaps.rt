@@ -8,12 +8,14 @@ use crate::scripts::{Part, Script, first_wrong};
 use cx_core::Kind;
 use std::test::Fail;
 
-// The word of ticket 0, and of ticket 1024 in the same slot, that lines 2 to 145 are as they were.
+// A word of the ring has the line behind a gap in its lowest 17 bits, the line in front of it in the next 17, and how often the slot came
+// round before above them. This is the word of ticket 0 that lines 2 to 145 are as they were.
 const FROM_1_TO_146: u64 = 0x2_0092;
 
+// The word of ticket 1024, which has the slot of ticket 0 again, that lines 2 to 145 are as they were.
 const OF_1024: u64 = 0x4_0002_0092;
 
-// Ticket 0 is none of the history's.
+// No entry is linked, so that ticket 0 is none of the history's, and only a word of no line may stand in its slot.
 const NOTHING_LINKED: [Row; 3] = [
     (
         0,
@@ -86,7 +88,7 @@ const NOTES: [Row; 30] = [
         },
         false,
     ),
-    // line 1, and then line 146, first or last between two
+    // gaps of ticket 0 that have line 1, alone or first, and line 146, last, alone or first
     (0, Kind::NoteGap { s: 0, i: 1, v: 2 }, false),
     (0, Kind::NoteGap { s: 0, i: 1, v: 146 }, false),
     (
@@ -116,7 +118,7 @@ const NOTES: [Row; 30] = [
         },
         false,
     ),
-    // up to the end of a region, and beyond it
+    // from line 147 up to the end of a region, and beyond it
     (
         0,
         Kind::NoteGap {
@@ -135,7 +137,7 @@ const NOTES: [Row; 30] = [
         },
         true,
     ),
-    // no line between two, and the second in front of the first
+    // no line between two that follow or are the same, and a line behind the gap that is in front of it
     (
         0,
         Kind::NoteGap {
@@ -259,7 +261,7 @@ const NOTES: [Row; 30] = [
         },
         true,
     ),
-    // over a word that stands, with the same
+    // the same word over one that stands
     (
         1,
         Kind::NoteGap {
@@ -271,15 +273,19 @@ const NOTES: [Row; 30] = [
     ),
 ];
 
+// Loads of words of the ring by their slots.
 const LOADS: [Row; 6] = [
+    // no such caller, slot or word
     (2, Kind::LoadGap { s: 0, i: 0 }, false),
     (1, Kind::LoadGap { s: 1024, i: 0 }, false),
     (1, Kind::LoadGap { s: 0, i: 16 }, false),
+    // a word that was noted, the last word of the ring, and one that was never noted
     (1, Kind::LoadGap { s: 0, i: 0 }, true),
     (1, Kind::LoadGap { s: 1023, i: 15 }, true),
     (1, Kind::LoadGap { s: 500, i: 7 }, true),
 ];
 
+// The rows above from the opening state on, and what holds after them. The words of slot s begin at place 16 s.
 static SCRIPTS: [Script; 1] = [(
     2,
     &[

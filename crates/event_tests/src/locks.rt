@@ -2,7 +2,9 @@
 //! script of three callers against a state written out by hand.
 
 use crate::board::{Row, holds};
-use crate::facts::{Fact, IMAGE_0, IMAGE_1, Known, SeenRow, Words};
+use crate::facts::{
+    Fact, IMAGE_0, IMAGE_1, Known, LAST_ADDRESS, SUM_ADDRESS, SeenRow, VERSION_AT, Words,
+};
 use crate::scripts::{Part, Script, first_wrong};
 use cx_core::{EXCLUSIVE_MARK, Kind};
 use std::test::Fail;
@@ -23,7 +25,7 @@ const TWO_REPLICAS: [SeenRow; 7] = [
 
 // Two callers, four replicas. Each refusal has one cause.
 const REFUSALS: [Row; 66] = [
-    // no such replica, and no right
+    // there is no replica 4
     (0, Kind::TryExclusive { r: 4 }, false),
     (0, Kind::TryShared { r: 4 }, false),
     (0, Kind::BackOff { r: 4 }, false),
@@ -35,7 +37,7 @@ const REFUSALS: [Row; 66] = [
     // no such caller
     (2, Kind::TryExclusive { r: 1 }, false),
     (2, Kind::TryShared { r: 1 }, false),
-    // no right
+    // caller 0 has no right on replica 1
     (0, Kind::BackOff { r: 1 }, false),
     (0, Kind::Downgrade { r: 1 }, false),
     (0, Kind::ReleaseExclusive { r: 1 }, false),
@@ -55,7 +57,7 @@ const REFUSALS: [Row; 66] = [
     (0, Kind::StoreWord { r: 1, i: 0, v: 0 }, false),
     (0, Kind::Downgrade { r: 1 }, false),
     (0, Kind::ReleaseExclusive { r: 1 }, false),
-    // and replica 2 exclusively
+    // replica 1 is held shared, and replica 2 exclusively
     (0, Kind::TryExclusive { r: 2 }, true),
     (0, STORE_BEHIND_2, false),
     (0, Kind::StoreWord { r: 3, i: 0, v: 0 }, false),
@@ -91,7 +93,7 @@ const REFUSALS: [Row; 66] = [
     // one right, which is exclusive
     (0, Kind::TryExclusive { r: 1 }, false),
     (0, Kind::TryShared { r: 3 }, false),
-    // a passer
+    // caller 1 has a passer's mark on replica 3, which caller 0 holds exclusively
     (1, Kind::TryShared { r: 3 }, true),
     (1, Kind::TryShared { r: 1 }, false),
     (1, Kind::TryExclusive { r: 3 }, false),
@@ -104,78 +106,96 @@ const REFUSALS: [Row; 66] = [
     (0, Kind::BackOff { r: 3 }, false),
 ];
 
+// A load of the place of replica 1.
 const LOAD_OF_1: Kind = Kind::LoadWord {
     r: 1,
     i: 0,
     refused: false,
 };
 
+// A load of the place of replica 2.
 const LOAD_OF_2: Kind = Kind::LoadWord {
     r: 2,
     i: 0,
     refused: false,
 };
 
+// A load of the place of replica 3.
 const LOAD_OF_3: Kind = Kind::LoadWord {
     r: 3,
     i: 0,
     refused: false,
 };
 
+// A load of the place of replica 4.
 const LOAD_OF_4: Kind = Kind::LoadWord {
     r: 4,
     i: 0,
     refused: false,
 };
 
+// A load of the last word of replica 1.
 const LAST_LOAD_OF_1: Kind = Kind::LoadWord {
     r: 1,
-    i: 1679,
+    i: LAST_ADDRESS,
     refused: false,
 };
 
+// A load of the address behind the last word of replica 1.
 const LOAD_BEHIND_1: Kind = Kind::LoadWord {
     r: 1,
-    i: 1680,
+    i: LAST_ADDRESS + 1,
     refused: false,
 };
 
+// A load of the place of replica 1 that is marked as refused.
 const MARKED_LOAD_OF_1: Kind = Kind::LoadWord {
     r: 1,
     i: 0,
     refused: true,
 };
 
+// A store at the address behind the last word of replica 2.
 const STORE_BEHIND_2: Kind = Kind::StoreWord {
     r: 2,
-    i: 1680,
+    i: LAST_ADDRESS + 1,
     v: 0,
 };
 
-const PERSIST_BEHIND_2: Kind = Kind::Persist { r: 2, i: 1680 };
+// A persist at the address behind the last word of replica 2.
+const PERSIST_BEHIND_2: Kind = Kind::Persist {
+    r: 2,
+    i: LAST_ADDRESS + 1,
+};
 
-// The steps by which caller 0 begins and ends a right of each kind. Caller 1 holds replica 3 exclusively, so that a shared try there
-// leaves a passer's mark.
+// Caller 0 takes replica 1 exclusively.
 const EXCLUSIVE: &[Row] = &[(0, Kind::TryExclusive { r: 1 }, true)];
 
+// Caller 0 gives its exclusive right on replica 1 up.
 const EXCLUSIVE_ENDS: &[Row] = &[(0, Kind::ReleaseExclusive { r: 1 }, true)];
 
+// Caller 0 takes replica 1 exclusively and downgrades its right.
 const DOWNGRADED: &[Row] = &[
     (0, Kind::TryExclusive { r: 1 }, true),
     (0, Kind::Downgrade { r: 1 }, true),
 ];
 
+// Caller 0 gives its downgraded right on replica 1 up.
 const DOWNGRADED_ENDS: &[Row] = &[(0, Kind::BackOff { r: 1 }, true)];
 
+// Caller 0 takes replica 2 shared.
 const SHARED: &[Row] = &[(0, Kind::TryShared { r: 2 }, true)];
 
+// Caller 0 gives its shared right on replica 2 up.
 const SHARED_ENDS: &[Row] = &[(0, Kind::BackOff { r: 2 }, true)];
 
+// Caller 0 tries replica 3 shared, which caller 1 holds exclusively, so that the try leaves a passer's mark.
 const PASSER: &[Row] = &[(0, Kind::TryShared { r: 3 }, true)];
 
+// Caller 0 takes its passer's mark on replica 3 back.
 const PASSER_ENDS: &[Row] = &[(0, Kind::BackOff { r: 3 }, true)];
 
-// Two rights begun and ended in each order.
+// Two rights of caller 0 begun and ended in each order, while caller 1 holds replica 3 exclusively.
 const RIGHTS: [Part; 19] = [
     Part::Rows(&[&[(1, Kind::TryExclusive { r: 3 }, true)]]),
     Part::Rows(&[EXCLUSIVE, SHARED, EXCLUSIVE_ENDS, SHARED_ENDS]),
@@ -234,7 +254,7 @@ const BEGINNING: [Row; 24] = [
         0,
         Kind::StoreWord {
             r: 1,
-            i: 1169,
+            i: SUM_ADDRESS,
             v: 5,
         },
         true,
@@ -243,7 +263,14 @@ const BEGINNING: [Row; 24] = [
     (0, Kind::StoreWord { r: 1, i: 9, v: 5 }, true),
     (0, Kind::StoreWord { r: 1, i: 0, v: 1 }, true),
     (0, Kind::Persist { r: 1, i: 0 }, true),
-    (0, Kind::Persist { r: 1, i: 1169 }, true),
+    (
+        0,
+        Kind::Persist {
+            r: 1,
+            i: SUM_ADDRESS,
+        },
+        true,
+    ),
     (0, Kind::Persist { r: 1, i: 9 }, true),
     (0, Kind::Persist { r: 1, i: 8 }, true),
     (0, Kind::Downgrade { r: 1 }, true),
@@ -271,27 +298,41 @@ const ROUND: [Row; 33] = [
         2,
         Kind::StoreWord {
             r: 3,
-            i: 1169,
+            i: SUM_ADDRESS,
             v: 9,
         },
         true,
     ),
     (2, Kind::ReleaseExclusive { r: 3 }, false),
-    (2, Kind::Persist { r: 3, i: 1169 }, true),
+    (
+        2,
+        Kind::Persist {
+            r: 3,
+            i: SUM_ADDRESS,
+        },
+        true,
+    ),
     (2, Kind::Persist { r: 3, i: 9 }, true),
     (2, Kind::ReleaseExclusive { r: 3 }, false),
     (
         2,
         Kind::StoreWord {
             r: 3,
-            i: 1169,
+            i: SUM_ADDRESS,
             v: 0,
         },
         true,
     ),
     (2, Kind::StoreWord { r: 3, i: 9, v: 0 }, true),
     (2, Kind::Persist { r: 3, i: 9 }, true),
-    (2, Kind::Persist { r: 3, i: 1169 }, true),
+    (
+        2,
+        Kind::Persist {
+            r: 3,
+            i: SUM_ADDRESS,
+        },
+        true,
+    ),
     (2, Kind::ReleaseExclusive { r: 3 }, true),
     (1, Kind::BackOff { r: 3 }, true),
     (2, Kind::BackOff { r: 5 }, true),
@@ -328,22 +369,25 @@ const END: [Row; 12] = [
     (0, LOAD_OF_1, false),
 ];
 
+// A load of the place of replica 4, in a script of three callers.
 const PLACE_OF_4: Kind = LOAD_OF_4;
 
+// A load of the place of replica 5.
 const PLACE_OF_5: Kind = Kind::LoadWord {
     r: 5,
     i: 0,
     refused: false,
 };
 
-const HALF_STORED: Words = &[(0, 2), (153, 1), (154, 12), (1168, 7)];
+// Replica 2 as caller 1 leaves it: the place and its own slot are stored, and the sum is not.
+const HALF_STORED: Words = &[(0, 2), (153, 1), (154, 12), (VERSION_AT, 7)];
 
-// What VOL and PER then hold of each replica, and what each caller knows.
+// After 300 steps, the lock words, what VOL and PER hold of each replica, and what each caller knows.
 const AFTER_300: [Fact; 17] = [
     Fact::Locks(&[1, 1, EXCLUSIVE_MARK + 1, 0, 1, 0]),
     Fact::Replica(0, IMAGE_0, IMAGE_0),
     Fact::Replica(1, IMAGE_1, IMAGE_1),
-    Fact::Replica(2, HALF_STORED, &[(153, 1), (1168, 7)]),
+    Fact::Replica(2, HALF_STORED, &[(153, 1), (VERSION_AT, 7)]),
     Fact::Replica(3, IMAGE_0, IMAGE_0),
     Fact::Replica(4, IMAGE_0, IMAGE_0),
     Fact::Replica(5, IMAGE_0, IMAGE_0),
@@ -359,6 +403,7 @@ const AFTER_300: [Fact; 17] = [
     Fact::Callers(3),
 ];
 
+// The rows above from the opening state on, and what holds after them.
 static SCRIPTS: [Script; 4] = [
     (
         1,

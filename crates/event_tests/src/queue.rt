@@ -7,6 +7,7 @@ use cx_core::Kind;
 use std::alloc::{AllocError, Global};
 use std::test::Fail;
 
+// Two callers link an entry each, with what a caller then knows as its front. Caller 1 finds slot 0 taken, and links at slot 1.
 const TWO_CALLERS: [SeenRow; 9] = [
     (
         (0, Kind::WriteCell { j: 0, i: 0, v: 1 }, true),
@@ -28,6 +29,7 @@ const TWO_CALLERS: [SeenRow; 9] = [
     ((1, Kind::LoadFree, true), Fact::Of(1, Known::Front(2))),
 ];
 
+// Two callers. Cells, words, slots, tickets and callers are tried at their limits and behind them.
 const LIMITS: [Row; 34] = [
     (
         0,
@@ -65,6 +67,7 @@ const LIMITS: [Row; 34] = [
         },
         false,
     ),
+    // the last slot, and one behind it
     (0, Kind::Look { s: 31 }, true),
     (0, Kind::Look { s: 32 }, false),
     (2, Kind::Look { s: 31 }, false),
@@ -101,11 +104,13 @@ const LIMITS: [Row; 34] = [
     (2, Kind::ReadCell { t: 0, k: 0, i: 0 }, false),
 ];
 
+// The rows above from the opening state on, and what holds after them.
 static SCRIPTS: [Script; 2] = [
     (
         2,
         &[
             Part::Seen(&TWO_CALLERS),
+            // a link word is the ticket times the number of cells, plus the cell, plus 1
             Part::Are(&[Fact::Links([1, 49, 0, 0]), Fact::Free(0)]),
         ],
     ),
@@ -140,6 +145,7 @@ fn announce(alloc: Global, board: &mut Board) -> Result<bool, AllocError> {
     Ok(true)
 }
 
+// Word i of what a caller writes: the number 1, and then words that name the caller and the place.
 fn word_of(caller: u32, i: u32) -> u64 {
     if i == 0 {
         1
@@ -148,7 +154,7 @@ fn word_of(caller: u32, i: u32) -> u64 {
     }
 }
 
-// Whether a caller may look at a slot and read this many words of the cell that it names.
+// Whether a caller may look at the slot of ticket `t` and read the first `words` words of cell `k`.
 fn read(
     alloc: Global,
     board: &mut Board,
@@ -225,7 +231,7 @@ static AFTER_200: [Fact; 11] = [
     Fact::CellWord(145 * 16 + 20, 0),
 ];
 
-// Whether each of three callers in turn may read the entries of all.
+// Whether each of three callers in turn may read the entries of all three.
 fn all_read(alloc: Global, board: &mut Board) -> Result<bool, AllocError> {
     for caller in 0..3u32 {
         if !read_all(alloc, board, caller)? {
@@ -235,7 +241,8 @@ fn all_read(alloc: Global, board: &mut Board) -> Result<bool, AllocError> {
     Ok(true)
 }
 
-// Whether three callers make these steps on a board.
+// Whether three callers announce, link and read their entries on a board, each step is allowed or refused as it is written, and `AFTER_200`
+// holds then.
 fn link_three(alloc: Global, board: &mut Board) -> Result<bool, AllocError> {
     if !announce(alloc, board)? || !are_seen(alloc, board, &THREE_CALLERS)? {
         return Ok(false);
@@ -243,7 +250,7 @@ fn link_three(alloc: Global, board: &mut Board) -> Result<bool, AllocError> {
     Ok(all_read(alloc, board)? && are_so(board, &AFTER_200))
 }
 
-// Whether three callers make these steps from the opening state on.
+// Whether three callers announce, link and read their entries from the opening state on as it is written.
 fn links_three(alloc: Global) -> Result<bool, AllocError> {
     let mut board = Board::open(alloc, 3)?;
     link_three(alloc, &mut board)

@@ -23,75 +23,89 @@ const ADDS: Kind = Kind::Raise {
     read: Some([0; 144]),
 };
 
+// A raise by code 0 that asks for a read.
 const ASKS_0: Kind = Kind::Raise {
     code: 0,
     read: Some(READ),
 };
 
+// A raise by code 10 that asks for a read.
 const ASKS_10: Kind = Kind::Raise {
     code: 10,
     read: Some(READ),
 };
 
+// A raise by code 5 that asks for a read.
 const ASKS_5: Kind = Kind::Raise {
     code: 5,
     read: Some(READ),
 };
 
+// A load of the place of replica 0.
 const PLACE_OF_0: Kind = Kind::LoadWord {
     r: 0,
     i: 0,
     refused: false,
 };
 
+// A load of the place of replica 1.
 const PLACE_OF_1: Kind = Kind::LoadWord {
     r: 1,
     i: 0,
     refused: false,
 };
 
+// A load of the place of replica 2.
 const PLACE_OF_2: Kind = Kind::LoadWord {
     r: 2,
     i: 0,
     refused: false,
 };
 
+// A raise by code 0 that asks for nothing.
 const RAISES_0: Kind = Kind::Raise {
     code: 0,
     read: None,
 };
 
+// A raise by code 1 that asks for nothing.
 const RAISES_1: Kind = Kind::Raise {
     code: 1,
     read: None,
 };
 
+// A raise by code 10 that asks for nothing.
 const RAISES_10: Kind = Kind::Raise {
     code: 10,
     read: None,
 };
 
+// A raise by code 3 that asks for nothing.
 const RAISES_3: Kind = Kind::Raise {
     code: 3,
     read: None,
 };
 
+// A raise by code 5 that asks for nothing.
 const RAISES_5: Kind = Kind::Raise {
     code: 5,
     read: None,
 };
 
+// A raise by 2^64 - 1, which is no root code, that asks for nothing.
 const RAISES_NO_CODE: Kind = Kind::Raise {
     code: u64::MAX,
     read: None,
 };
 
+// A load of word 1 of replica 2.
 const WORD_1_OF_2: Kind = Kind::LoadWord {
     r: 2,
     i: 1,
     refused: false,
 };
 
+// One caller links an entry that adds 0, brings replica 1 up to place 1, and publishes it by code 3.
 const ONE_CALLER: [Row; 14] = [
     (0, Kind::WriteCell { j: 0, i: 0, v: 1 }, true),
     (0, Kind::Look { s: 0 }, true),
@@ -129,7 +143,7 @@ const READS: [Row; 20] = [
     (0, RAISES_10, true),
     (0, Kind::LoadCur, true),
     (0, ASKS_10, true),
-    // so does a word written into a cell
+    // a word written into a cell ends the use of the code found
     (0, Kind::LoadCur, true),
     (0, Kind::WriteCell { j: 1, i: 0, v: 2 }, true),
     (0, ASKS_10, false),
@@ -162,7 +176,7 @@ const READ_BEFORE_ANY_UPDATE: [Row; 9] = [
     // CUR was not loaded
     (1, ASKS_0, false),
     (1, Kind::LoadCur, true),
-    // no code found, no code won with
+    // the code was not found in CUR, and nothing was won with it
     (1, RAISES_1, false),
     (1, RAISES_NO_CODE, false),
     (1, ASKS_0, true),
@@ -176,13 +190,13 @@ const GUARDS: [Row; 10] = [
     (2, Kind::Publish, false),
     (2, RAISES_0, false),
     (2, Kind::Retire, false),
-    // nothing won
+    // caller 0 has won nothing
     (0, Kind::Retire, false),
     // caller 1 publishes past caller 0, whose replica is then at no place above
     (1, Kind::Publish, true),
     (0, Kind::LoadCur, true),
     (0, Kind::Publish, false),
-    // nothing downgraded
+    // caller 0 has nothing downgraded
     (0, Kind::BackOff { r: 1 }, true),
     (0, Kind::Publish, false),
 ];
@@ -201,6 +215,7 @@ const ONE_WIN: [Row; 9] = [
     (0, Kind::Publish, true),
 ];
 
+// The rows from the opening state on, and what holds after them. A root code is the place times the number of replicas, plus the replica.
 static SCRIPTS: [Script; 7] = [
     (
         1,
@@ -278,7 +293,7 @@ static SCRIPTS: [Script; 7] = [
             Part::Race(3),
             Part::Prepared(0, 3, &AFTER_TWO),
             Part::Rows(&[&ONE_WIN]),
-            // its entry at ticket 0 is below place 1, and that of caller 1 at ticket 1 is not
+            // the entry of caller 0 at ticket 0 is below place 1, and that of caller 1 at ticket 1 is not
             Part::Are(&[
                 Fact::Of(0, Known::Answered(Some((0, 5)))),
                 Fact::Of(1, Known::Answered(None)),
@@ -289,11 +304,13 @@ static SCRIPTS: [Script; 7] = [
     ),
 ];
 
+// A win with code 10 over code 0.
 const WIN_FROM_0: Option<WonCode> = Some(WonCode {
     code: 10,
     before: 0,
 });
 
+// A win with code 11 over code 5.
 const WIN_FROM_5: Option<WonCode> = Some(WonCode {
     code: 11,
     before: 5,

@@ -1,4 +1,4 @@
-//! Scripts: rows of events and what is so after them, and a race of two publishers.
+//! Scripts: rows of events and the facts that hold after them, and a race of two publishers.
 
 use crate::board::{Board, Row};
 use crate::facts::{Fact, SeenRow, is_so};
@@ -9,20 +9,20 @@ use std::alloc::{AllocError, Global};
 pub enum Part {
     /// Lists of rows, one after another.
     Rows(&'static [&'static [Row]]),
-    /// Rows, and what is so after each.
+    /// Rows, each with a fact that holds after it.
     Seen(&'static [SeenRow]),
-    /// The beginning of the race, and this many of its events.
+    /// What comes before the race, and its first events, of which this is the number.
     Race(usize),
     /// A caller takes a replica exclusively, stores and persists these words, and downgrades it.
     Prepared(u32, u64, &'static [(u64, u64)]),
-    /// What is so.
+    /// Facts that hold of the board.
     Are(&'static [Fact]),
 }
 
 /// The number of callers, 1 to 8, and the parts.
 pub type Script = (u32, &'static [Part]);
 
-/// The first script with a part that goes otherwise, with that part. `Err` means out of memory.
+/// The numbers of the first script that does not go as it is written, and of its first part that does not. `Err` means out of memory.
 pub fn first_wrong(
     alloc: Global,
     scripts: &[Script],
@@ -35,7 +35,7 @@ pub fn first_wrong(
     Ok(None)
 }
 
-// The first part that goes otherwise from the opening state on.
+// The number of the first part that does not go as it is written, from the opening state on.
 fn first_wrong_of(
     alloc: Global,
     callers: u32,
@@ -48,7 +48,7 @@ fn first_wrong_of(
     first_wrong_part(alloc, &mut board, parts)
 }
 
-// The first part that goes otherwise on a board.
+// The number of the first part that does not go as it is written, on this board.
 fn first_wrong_part(
     alloc: Global,
     board: &mut Board,
@@ -62,7 +62,7 @@ fn first_wrong_part(
     Ok(None)
 }
 
-// Whether a part is as it is written.
+// Whether a part goes as it is written.
 fn is_as_written(alloc: Global, board: &mut Board, part: &Part) -> Result<bool, AllocError> {
     match part {
         Part::Rows(lists) => are_as_written(alloc, board, lists),
@@ -73,6 +73,7 @@ fn is_as_written(alloc: Global, board: &mut Board, part: &Part) -> Result<bool, 
     }
 }
 
+// Whether the events of lists of rows are allowed or refused as the rows say.
 fn are_as_written(alloc: Global, board: &mut Board, lists: &[&[Row]]) -> Result<bool, AllocError> {
     for rows in lists {
         if board.first_wrong(alloc, rows)?.is_some() {
@@ -82,7 +83,7 @@ fn are_as_written(alloc: Global, board: &mut Board, lists: &[&[Row]]) -> Result<
     Ok(true)
 }
 
-// Whether the first `events` events of the race are as they are written.
+// Whether the first `events` events of the race go as they are written.
 fn races(alloc: Global, board: &mut Board, events: usize) -> Result<bool, AllocError> {
     for (row, fact) in RACE.iter().take(events) {
         if board.step(alloc, row.0, row.1)? != row.2 || !is_so(board, fact) {
@@ -92,7 +93,7 @@ fn races(alloc: Global, board: &mut Board, events: usize) -> Result<bool, AllocE
     Ok(true)
 }
 
-/// Whether rows go as they are written, and what is said of each is so after it. `Err` means out of memory.
+/// Whether the events of rows are allowed or refused as the rows say, and the fact of each row holds after it. `Err` means out of memory.
 pub fn are_seen(alloc: Global, board: &mut Board, rows: &[SeenRow]) -> Result<bool, AllocError> {
     for (row, fact) in rows {
         if board.step(alloc, row.0, row.1)? != row.2 || !is_so(board, fact) {
@@ -102,7 +103,7 @@ pub fn are_seen(alloc: Global, board: &mut Board, rows: &[SeenRow]) -> Result<bo
     Ok(true)
 }
 
-/// Whether all of these are so.
+/// Whether all these facts hold of a board.
 pub fn are_so(board: &Board, facts: &[Fact]) -> bool {
     for fact in facts {
         if !is_so(board, fact) {

@@ -2,7 +2,7 @@
 //! a reader.
 
 use crate::board::{Row, holds};
-use crate::facts::{Fact, Known, SeenRow};
+use crate::facts::{Fact, Known, LAST_ADDRESS, SUM_ADDRESS, SeenRow};
 use crate::race::LINKED;
 use crate::scripts::{Part, Script, first_wrong};
 use cx_core::{Kind, SeenOffer};
@@ -14,7 +14,8 @@ const NOTHING_LINKED: [Row; 2] = [
     (0, Kind::Offer { j: 0 }, false),
 ];
 
-// The set of caller 0's first entry: the four words that its full step changes.
+// The set of caller 0's first entry: how many words its full step changes, and an address and a value for each, the sum, the number and
+// the reply of caller 0, and the place.
 const FIRST_SET: [Row; 9] = [
     (0, Kind::WriteSet { j: 0, i: 0, v: 4 }, true),
     (
@@ -22,7 +23,7 @@ const FIRST_SET: [Row; 9] = [
         Kind::WriteSet {
             j: 0,
             i: 1,
-            v: 1169,
+            v: SUM_ADDRESS,
         },
         true,
     ),
@@ -64,17 +65,17 @@ const WRITES: [Row; 24] = [
     (0, Kind::WriteSet { j: 0, i: 0, v: 257 }, true),
     (0, Kind::Offer { j: 0 }, false),
     (0, Kind::WriteSet { j: 0, i: 0, v: 4 }, true),
-    // another value
+    // a pair has another value than the full step stores
     (0, Kind::WriteSet { j: 0, i: 2, v: 6 }, true),
     (0, Kind::Offer { j: 0 }, false),
     (0, Kind::WriteSet { j: 0, i: 2, v: 5 }, true),
-    // an address outside
+    // a pair has an address outside the region
     (
         0,
         Kind::WriteSet {
             j: 0,
             i: 1,
-            v: 1680,
+            v: LAST_ADDRESS + 1,
         },
         true,
     ),
@@ -84,12 +85,12 @@ const WRITES: [Row; 24] = [
         Kind::WriteSet {
             j: 0,
             i: 1,
-            v: 1169,
+            v: SUM_ADDRESS,
         },
         true,
     ),
     (0, Kind::Offer { j: 0 }, true),
-    // once offered
+    // a set that is offered is not offered nor written again
     (0, Kind::Offer { j: 0 }, false),
     (0, Kind::WriteSet { j: 0, i: 0, v: 4 }, false),
     (0, Kind::WriteSet { j: 0, i: 512, v: 0 }, false),
@@ -100,7 +101,7 @@ const READS: [Row; 36] = [
     // slot 1 was looked at last
     (1, Kind::LoadOffer { k: 0, t: 0 }, false),
     (1, Kind::Look { s: 0 }, true),
-    // under a confirmed protection
+    // there is no confirmed protection
     (1, Kind::LoadOffer { k: 0, t: 0 }, false),
     (1, Kind::Protect { p: 0 }, true),
     (1, Kind::LoadOffer { k: 0, t: 0 }, false),
@@ -142,8 +143,10 @@ const READS: [Row; 36] = [
     (1, Kind::ReadSet { k: 0, t: 0, i: 0 }, false),
 ];
 
+// Caller 0 writes the number of its second entry over its first one in its cell 0.
 const OVERWRITE: Kind = Kind::WriteCell { j: 0, i: 0, v: 2 };
 
+// A caller closes the tickets below 2.
 const CLOSE: Kind = Kind::CloseLow { target: 2 };
 
 // Caller 0 closes the tickets below 2, scans what both callers need, and opens what neither does.
@@ -155,7 +158,7 @@ const SCANNED: [Row; 5] = [
     (0, Kind::LoadFree, true),
 ];
 
-// Caller 1 reads the set of ticket 0 under a protection.
+// Caller 1 reads the first word of the set of ticket 0 under a protection, and caller 0 loads CUR.
 const READER: [Row; 6] = [
     (1, Kind::Look { s: 0 }, true),
     (1, Kind::Protect { p: 0 }, true),
@@ -209,7 +212,7 @@ const GIVEN_AGAIN: [SeenRow; 17] = [
     ((1, Kind::Protect { p: 2 }, true), Fact::OfferWord(0, 1)),
     ((1, Kind::Confirm, true), Fact::OfferWord(0, 1)),
     ((1, Kind::Look { s: 2 }, true), Fact::OfferWord(0, 1)),
-    // the offer word names the ticket before
+    // the offer word in the cell is that of ticket 0
     (
         (1, Kind::LoadOffer { k: 0, t: 2 }, true),
         Fact::Of(
@@ -225,11 +228,11 @@ const GIVEN_AGAIN: [SeenRow; 17] = [
         (1, Kind::ReadSet { k: 0, t: 2, i: 0 }, false),
         Fact::OfferWord(0, 1),
     ),
-    // the set of the entry before is none of this one
+    // the words of the set are those of ticket 0 still
     ((0, Kind::Offer { j: 0 }, false), Fact::OfferWord(0, 1)),
 ];
 
-// Caller 0 adds 3 by its second entry, at ticket 2.
+// Caller 0, whose second entry adds 3 at ticket 2, changes the four values of the set and offers it, and caller 1 reads it.
 const OFFERED_AGAIN: [SeenRow; 9] = [
     (
         (0, Kind::WriteSet { j: 0, i: 2, v: 15 }, true),
@@ -281,6 +284,7 @@ const OFFERED_AGAIN: [SeenRow; 9] = [
     ),
 ];
 
+// The rows above from the opening state on, and what holds after them.
 static SCRIPTS: [Script; 2] = [
     (
         2,
@@ -290,7 +294,7 @@ static SCRIPTS: [Script; 2] = [
                 Fact::OfferWord(0, 1),
                 Fact::OfferWord(16, 0),
                 Fact::SetWord(0, 4),
-                Fact::SetWord(1, 1169),
+                Fact::SetWord(1, SUM_ADDRESS),
                 Fact::SetWord(512, u64::MAX),
                 Fact::Of(1, Known::Offer(None)),
             ]),

@@ -1,18 +1,21 @@
-//! Commands of the document store, that look thrown.
+//! Commands of the document store that look random.
 
 ghost use Rattle.std.specs.Prelude.{◌≡◌, ◌<◌};
 ghost use Rattle.cx_base.specs.Memory.{Words};
 
 use cx_core::Entry;
 
+// The letters of the digits 0 to 9.
 const DIGITS: [u8; 10] = *b"0123456789";
 
+// The longest document that is put.
 const LETTERS: [u8; 150] = [b'x'; 150];
 
-// Put, Del, Add, Get, Next and Count, of which the first comes most often.
+// The kinds of the commands, drawn from ten: four are a put (1), one a removal (2), two an addition (3), one a get (4), one the next key (5),
+// and one the count (6).
 const KINDS: [u64; 10] = [1, 1, 1, 1, 2, 3, 3, 4, 5, 6];
 
-/// Numbers that look thrown.
+/// Numbers that look random.
 #[derive(Drop)]
 pub(crate) struct Numbers {
     pub(crate) state: u64,
@@ -31,10 +34,12 @@ impl Numbers {
     }
 }
 
+// The last decimal digit of a number, as a letter.
 fn digit(n: u64) -> u8 {
     DIGITS[(n % 10) as usize]
 }
 
+// Puts a word at a place, if there is one.
 fn put_word(words: &mut [u64], at: usize, word: u64) {
     if let Some(place) = words.get_mut(at) {
         *place = word;

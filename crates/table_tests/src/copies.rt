@@ -93,7 +93,10 @@ fn is_copied_at_opening(alloc: Global) -> Result<bool, AllocError> {
 // A word that no region has when a table is made.
 const OTHER: u64 = 1 << 40;
 
-// Stores a word of the replica held exclusively.
+// The words of a region of Tally.
+const REGION: u64 = 1680;
+
+// Stores `OTHER` over a word of the replica held exclusively.
 fn store_beside(
     shared: &Shared<Tally>,
     seat: &mut CallerSeat,
@@ -109,8 +112,8 @@ fn store_beside(
     shared.store_word(seat, held.replica() as u64, at, OTHER)
 }
 
-// Stores that word over the words of the replica held exclusively from one on up to another, copies the other replica over it, and
-// makes what was stored durable. It gives the place, the steps of the copy, and those of the flush.
+// Stores `OTHER` over the words from `from` up to `to` of the replica held exclusively, copies the replica held shared over it, and makes what
+// was stored durable. It returns the place, the steps of the copy, and the steps of the flush.
 fn copy_over(
     shared: &Shared<Tally>,
     seat: &mut CallerSeat,
@@ -137,22 +140,25 @@ fn copy_over(
     ])
 }
 
-// The words of a replica that differ from the other: none, one, a line and all, and as many as a seat lists, one fewer and one more,
-// and twice as many. Each is persisted once.
+// The words of a replica that differ from the one copied, from the first up to the one behind the last. A seat lists 512 dirty words at most.
 const DIFFERING: [(u64, u64); 10] = [
+    // none, the first word, the last one, a line, and all
     (0, 0),
     (0, 1),
-    (1679, 1680),
+    (REGION - 1, REGION),
     (800, 808),
-    (0, 1680),
-    (1680 - 511, 1680),
-    (1680 - 512, 1680),
-    (1680 - 513, 1680),
-    (1680 - 1024, 1680),
-    (1680 - 1025, 1680),
+    (0, REGION),
+    // about as many as a seat lists
+    (REGION - 511, REGION),
+    (REGION - 512, REGION),
+    (REGION - 513, REGION),
+    // about twice as many
+    (REGION - 1024, REGION),
+    (REGION - 1025, REGION),
 ];
 
-// Whether a copy over a replica of which these words differ stores these, and a flush persists each once.
+// Whether a copy over a replica of which the words from `from` up to `to` differ loads all words of both replicas and stores these, and a
+// flush persists each of them once.
 fn is_copied_over(alloc: Global, from: u64, to: u64) -> Result<bool, AllocError>
     requires { to ≤ 1680 }
 {
@@ -165,7 +171,7 @@ fn is_copied_over(alloc: Global, from: u64, to: u64) -> Result<bool, AllocError>
     Ok(copy_over(&shared, &mut seat, &held, &source, from, to) == Ok(want))
 }
 
-// The first row that is copied otherwise.
+// The number of the first row of `DIFFERING` whose copy or flush makes other steps.
 fn first_wrong_copy(alloc: Global) -> Result<Option<usize>, AllocError> {
     for (i, (from, to)) in DIFFERING.iter().enumerate() {
         if *to > 1680 || !is_copied_over(alloc, *from, *to)? {

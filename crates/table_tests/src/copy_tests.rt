@@ -26,7 +26,7 @@ use std::test::Fail;
 /// The replica that is brought up, and then copied.
 pub(crate) const SOURCE: u32 = 1;
 
-// The one that it is copied over.
+// The replica that is copied over.
 const TARGET: u32 = 2;
 
 /// Takes a replica shared beside one held exclusively.
@@ -46,10 +46,10 @@ pub(crate) fn share_beside<O: Object>(
     Ok(right.ok())
 }
 
-/// The result of a copy: the steps before it, and the place that it gave.
+/// The result of a copy: the steps before it, and the place that it returned.
 pub(crate) type Copied = (u64, u64);
 
-// Copies a replica over one that was just taken.
+// Copies replica `SOURCE` over one that was just taken.
 fn copy_beside<O: Object>(
     shared: &Shared<O>,
     seat: &mut CallerSeat,
@@ -97,7 +97,7 @@ pub(crate) struct Outcome {
     pub(crate) left: Remains,
 }
 
-/// Renews a replica and copies it with a limit of steps, and closes the table.
+/// The outcome of a caller that brings a replica up and copies it, with a limit of steps, on a table that is then closed.
 pub(crate) fn at_limit(
     alloc: Global,
     op: &[u64; 144],
@@ -119,7 +119,7 @@ pub(crate) fn at_limit(
     }
 }
 
-/// The steps before the copy, those of the whole run, and the place that it gave.
+/// The steps before the copy, those of the whole run, and the place that the copy returned.
 pub(crate) type Whole = (u64, u64, u64);
 
 /// The result of a run without a limit.
@@ -130,15 +130,16 @@ pub(crate) fn whole_run(alloc: Global, op: &[u64; 144]) -> Result<Option<Whole>,
     }
 }
 
+// The result of a run that was not halted, which made `steps` steps.
 fn whole_of(copied: Option<Copied>, steps: u64) -> Option<Whole> {
     let (before, place) = copied?;
     Some((before, steps, place))
 }
 
-// The loads of a line of both replicas.
+// The loads of a line: 8 words of each of two replicas.
 const LINE_LOADS: u64 = 16;
 
-// Whether a copy of these words over those that stood before was left with the words found, after `steps` steps.
+// Whether a copy of `words` over the words `before` leaves the words `found` after `steps` steps.
 fn is_copied_to(words: &[u64], before: &[u64], found: &[u64], steps: u64) -> bool {
     let lines = words.len() / 8;
     let mut line = 0usize;
@@ -228,7 +229,7 @@ fn a_whole_copy_gives_the_place(rt: HostRuntime) -> Result<(), Fail> {
     Ok(())
 }
 
-// The words that are copied, and those that stood before.
+// The operation of the entry that is replayed before a copy, the words that are copied, and the words of the opening image under them.
 #[derive(Drop)]
 struct Words<'a> {
     op: &'a [u64; 144],
@@ -255,7 +256,8 @@ fn is_right_at(
     }
 }
 
-// How many limits of steps within a copy are right, each fourth from one on, until all were tried or one leaves something else.
+// How many limits of steps within a copy were tried, each fourth one from `from` on; `None` where one of them leaves something else than the
+// copy begun.
 fn right_limits(alloc: Global, words: &Words, from: u64) -> Result<Option<u64>, AllocError> {
     let Some((before, all, _)) = whole_run(alloc, words.op)? else {
         return Ok(None);
@@ -275,7 +277,7 @@ fn right_limits(alloc: Global, words: &Words, from: u64) -> Result<Option<u64>, 
     Ok(Some(tried))
 }
 
-// Whether each fourth limit from one on, of 840 or more, leaves the copy begun.
+// Whether each fourth limit of steps within a copy, from `from` on, leaves the copy begun; there are 840 such limits or more.
 fn are_right(alloc: Global, from: u64) -> Result<bool, AllocError> {
     let entry = first_entry();
     let (source, _) = stepped(alloc, &entry, None)?;
@@ -289,7 +291,7 @@ fn are_right(alloc: Global, from: u64) -> Result<bool, AllocError> {
     Ok(tried.is_some_and(|tried| tried >= 840))
 }
 
-// Each limit from that at which the copy begins to that with which it ends, in four parts.
+// Each limit of steps within the copy is tried by this test or one of the three below.
 #[test]
 fn limits_leave_a_copy_begun(rt: HostRuntime) -> Result<(), Fail> {
     holds(&rt, are_right(rt.alloc(), 0)?);

@@ -57,14 +57,14 @@ fn read_kept(
     Ok(caller)
 }
 
-// Whether words are those of an entry with this number, whose operation is one word again and again.
+// Whether words are those of an entry with this number, all words of whose operation are `word`.
 fn is_entry(words: &[u64; 145], number: u64, word: u64) -> bool {
     let mut wanted = [word; 145];
     wanted[0] = number;
     *words == wanted
 }
 
-// Whether a caller reads the first entry of a caller with a ticket, whose operation is one word again and again.
+// Whether a seat reads, by a ticket, the first entry of `caller`, all words of whose operation are `word`.
 fn reads(shared: &Shared<Tally>, seat: &mut CallerSeat, ticket: u64, caller: u32, word: u64) -> bool
     requires seat { IsSeatOf shared.now seat.old }
     requires later { shared.now.base.place ≤ ticket }
@@ -72,7 +72,7 @@ fn reads(shared: &Shared<Tally>, seat: &mut CallerSeat, ticket: u64, caller: u32
 {
     let mut into = [0; 145];
     match read(shared, seat, ticket, &mut into) {
-        Some(Ok(of)) => of == caller && is_entry(&into, 1, word),
+        Some(Ok(owner)) => owner == caller && is_entry(&into, 1, word),
         _ => false,
     }
 }
@@ -108,7 +108,7 @@ fn both_read(alloc: Global) -> Result<bool, AllocError> {
     Ok(is_linked(one, 0) && is_linked(other, 1) && by_second && by_first)
 }
 
-// 147 steps link an entry, 2 protect it, 146 read it, and 1 releases the protection.
+// Limits of steps before and after each part of a run: 147 steps link an entry, 2 protect it, 146 read it, and 1 releases the protection.
 const LIMITS: [u64; 7] = [147, 148, 149, 150, 200, 295, 296];
 
 // Whether a caller with a limit of steps that reads its entry stops there, or reads it.
@@ -117,14 +117,14 @@ fn stops_at(alloc: Global, limit: u64) -> Result<bool, AllocError> {
     let (mut first, _) = update(&shared, first, &[5; 144], 2);
     let mut into = [0; 145];
     let is_read = match read(&shared, &mut first, 0, &mut into) {
-        Some(Ok(of)) => limit >= 296 && of == 0,
+        Some(Ok(owner)) => limit >= 296 && owner == 0,
         Some(Err(Halt)) => limit < 296,
         None => false,
     };
     Ok(is_read && first.steps() == limit)
 }
 
-// The first of the limits at which a caller does otherwise.
+// The first of `LIMITS` at which a caller neither stops nor has read its entry as it should.
 fn first_wrong_limit(alloc: Global) -> Result<Option<u64>, AllocError> {
     for limit in LIMITS {
         if !stops_at(alloc, limit)? {

@@ -19,13 +19,13 @@ use replica::{HeldWords, copy_from, flush};
 use std::alloc::{AllocError, Global};
 use std::test::Fail;
 
-// The words of a replica of this object.
+// The words of a replica of Tally.
 const REGION: u64 = 1680;
 
-// What is stored into a word.
+// The value that these tests store over words.
 const WORD: u64 = 1 << 40;
 
-// Stores a word into a replica.
+// Stores `WORD` at an address of a replica.
 fn store_at(
     shared: &Shared<Tally>,
     seat: &mut CallerSeat,
@@ -39,7 +39,7 @@ fn store_at(
     shared.store_held(seat, held, at, WORD)
 }
 
-// Stores a word over each of the last `count` words of a replica, and persists them.
+// Stores `WORD` over each of the last `count` words of a replica, and persists them.
 fn store_and_flush(
     shared: &Shared<Tally>,
     seat: &mut CallerSeat,
@@ -55,7 +55,7 @@ fn store_and_flush(
     flush(shared, seat, held)
 }
 
-// Takes replica 1 and stores that many words into it, and persists them. It says whether it was taken.
+// Takes replica 1, stores `WORD` over its last `count` words, and persists them. It returns whether the replica was taken.
 fn take_and_flush(shared: &Shared<Tally>, seat: &mut CallerSeat, count: u64) -> Result<bool, Halt>
     requires callers { shared.now.callers ≡ 2 }
     requires new { IsNew shared.now seat.old }
@@ -70,7 +70,8 @@ fn take_and_flush(shared: &Shared<Tally>, seat: &mut CallerSeat, count: u64) -> 
     }
 }
 
-// A caller without entries takes replica 1 exclusively and replica 0 shared, and copies. It says whether the place was 0.
+// A caller without entries takes replica 1 exclusively and replica 0 shared, and copies replica 0 over replica 1. It returns
+// whether the place was 0.
 fn copy_at_opening(shared: &Shared<Tally>, seat: &mut CallerSeat) -> Result<bool, Halt>
     requires callers { shared.now.callers ≡ 2 }
     requires new { IsNew shared.now seat.old }
@@ -85,7 +86,7 @@ fn copy_at_opening(shared: &Shared<Tally>, seat: &mut CallerSeat) -> Result<bool
     Ok(copy_from(shared, seat, &held, &source)? == 0)
 }
 
-// Flushes this many words, or else copies. It says whether that was done.
+// Stores and flushes `flushed` words, or copies a replica where that is `None`. It returns whether this was done.
 fn flush_or_copy(
     shared: &Shared<Tally>,
     seat: &mut CallerSeat,
@@ -101,7 +102,7 @@ fn flush_or_copy(
     }
 }
 
-// What the table of a caller left that flushed this many words, or else copied, where it did.
+// What a table left whose caller stored and flushed `flushed` words, or copied a replica where that is `None`.
 fn left_by(alloc: Global, flushed: Option<u64>) -> Result<Option<Remains>, AllocError> {
     let (shared, mut first, second) = made(alloc, Tally, &NO_LIMITS)?;
     let is_done = flush_or_copy(&shared, &mut first, flushed) == Ok(true);
@@ -128,7 +129,7 @@ fn is_left(left: &Remains, opening: &[u64], words: &[u64]) -> bool {
         && is_clean(left, 3, opening)
 }
 
-// Whether the medium has each word that was flushed, or that was copied, and no other is changed.
+// Whether replica 1 has each word that was flushed in memory and on the medium, and no other word of the table is changed.
 fn is_right(alloc: Global, flushed: Option<u64>) -> Result<bool, AllocError> {
     let opening = words_with(alloc, 0)?;
     let words = words_with(alloc, flushed.unwrap_or(0))?;
@@ -138,8 +139,8 @@ fn is_right(alloc: Global, flushed: Option<u64>) -> Result<bool, AllocError> {
     }
 }
 
-// As many words as a seat lists, one fewer and one more, and the whole region. In the opening state no word differs from another
-// replica's, so a copy then makes no word dirty.
+// How many words are flushed: none, few, about the 512 dirty words that a seat lists at most, one more than twice as many, and the whole region.
+// `None` is a copy: in the opening state no word differs from another replica's, so it makes no word dirty.
 const ROWS: [Option<u64>; 8] = [
     Some(0),
     Some(12),
@@ -151,6 +152,7 @@ const ROWS: [Option<u64>; 8] = [
     None,
 ];
 
+// The number of the first row that leaves another table than it should.
 fn first_wrong(alloc: Global, rows: &[Option<u64>]) -> Result<Option<usize>, AllocError> {
     for (i, row) in rows.iter().enumerate() {
         if !is_right(alloc, *row)? {

@@ -27,7 +27,7 @@ pub(crate) fn opening(alloc: Global) -> Result<Vec<u64>, AllocError> {
     Ok(base.words.into_vec())
 }
 
-/// The words after the full step of the first entry on a plain memory, of which this many accesses are allowed, and whether it was done.
+/// The words of the opening image after the full step of an entry on a plain memory that allows `accesses` accesses, and whether it was done.
 pub(crate) fn stepped(
     alloc: Global,
     entry: &Entry,
@@ -71,7 +71,7 @@ pub(crate) fn is_clean(left: &Remains, r: usize, words: &[u64]) -> bool {
     }
 }
 
-/// Whether the dirty words of a replica are those that the medium has otherwise.
+/// Whether exactly those words of a replica are marked dirty that are others in memory than on the medium.
 pub(crate) fn is_marked(replica: &Replica) -> bool {
     for ((word, durable), mark) in replica
         .volatile
@@ -86,7 +86,7 @@ pub(crate) fn is_marked(replica: &Replica) -> bool {
     true
 }
 
-/// How many words differ.
+/// How many words of two lists differ, place by place.
 pub(crate) fn differing(one: &[u64], other: &[u64]) -> u64 {
     let mut count = 0u64;
     for (a, b) in one.iter().zip(other.iter()) {

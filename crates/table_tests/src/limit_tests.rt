@@ -63,7 +63,7 @@ fn is_modelled(replica: &Replica, model: &Model) -> bool {
         && is_marked(replica)
 }
 
-// The dirty words of the replica, where a caller with a limit left it as the model and the three others untouched.
+// How many dirty words a caller with a limit left in the replica, where it left it as the model and the three others untouched.
 fn dirty_of(outcome: &Outcome, limit: u64, model: &Model) -> Option<u64> {
     let region = model.opening.len();
     let replica = replica_of(&outcome.left, SOURCE as usize, region)?;
@@ -80,7 +80,8 @@ fn dirty_of(outcome: &Outcome, limit: u64, model: &Model) -> Option<u64> {
     }
 }
 
-// The same of a caller that is run with a limit.
+// Runs a caller with a limit of steps; returns how many dirty words it left in the replica, where it left it as the model and the three
+// others untouched.
 fn dirty_at(
     alloc: Global,
     op: &[u64; 144],
@@ -93,7 +94,7 @@ fn dirty_at(
     }
 }
 
-// The words that the full step of the entry stores.
+// How many words the full step of the entry changes in the opening image.
 fn stored_by(alloc: Global, entry: &Entry) -> Result<u64, AllocError>
     requires { entry.now.caller < 8 }
 {
@@ -101,7 +102,7 @@ fn stored_by(alloc: Global, entry: &Entry) -> Result<u64, AllocError>
     Ok(differing(&words, &opening(alloc)?))
 }
 
-// The words that are not 0 of the pairs of an address and a value that lead from words to others.
+// Of the pairs of an address and a value by which words become others, how many addresses and values are not 0.
 fn pair_words(before: &[u64], after: &[u64]) -> u64 {
     let mut count = 0u64;
     for (at, (old, new)) in before.iter().zip(after.iter()).enumerate() {
@@ -139,7 +140,7 @@ fn persisted_after(steps: u64, offered: u64, is_done: bool) -> u64 {
     }
 }
 
-// The dirty words that a limit leaves, where it leaves the words of the model.
+// How many dirty words a run with this limit leaves, where it leaves the words of the model.
 fn dirty_after(
     alloc: Global,
     entry: &Entry,
@@ -160,7 +161,7 @@ fn dirty_after(
     dirty_at(alloc, &entry.op, limit, &model)
 }
 
-// The most dirty words that a limit up to one leaves, where each leaves the words of the model.
+// The most dirty words that a run with a limit up to `last` leaves, where each run leaves the words of the model.
 fn most_dirty(
     alloc: Global,
     entry: &Entry,

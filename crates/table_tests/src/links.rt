@@ -18,6 +18,7 @@ use std::alloc::{AllocError, Global};
 use std::test::Fail;
 use std::thread::join;
 
+// What stands for a limit of steps where there is none.
 pub(crate) const NO_LIMIT: u64 = u64::MAX;
 
 // A table of two callers that opens at a place, and its seats.
@@ -154,7 +155,7 @@ fn closed_after_both(
     closed(alloc, shared, first, second)
 }
 
-// Whether two callers linked, at the first two tickets, and what their table leaves.
+// Whether two callers linked at the first two tickets, and their table, which is closed, was left as `is_left_open` says.
 fn are_both_linked(
     alloc: Global,
     shared: Shared<Tally>,
@@ -241,7 +242,7 @@ pub(crate) fn is_linked(tried: Result<LinkTried, Halt>, at: u64) -> bool {
     }
 }
 
-// The first limit at which a caller does otherwise.
+// The first limit of steps at which a caller neither stops nor has linked its entry as it should.
 fn first_wrong_limit(alloc: Global) -> Result<Option<u64>, AllocError> {
     for limit in 0..149 {
         if !stops_at(alloc, limit)? {
@@ -257,17 +258,20 @@ fn each_limit_halts_until_the_link(rt: HostRuntime) -> Result<(), Fail> {
     Ok(())
 }
 
-// What a caller announces: an operation of one word again and again, and one with another word at both ends. Then the steps
-// made, where it does not halt.
+// What a caller announces, one after the other: an operation whose words are all the first number, and one that has the second number at
+// both ends. Then the steps made, where it does not halt.
 type Announced = (u64, u64, Option<u64>);
 
-// The limits of two callers of a table, and what each announces. Words that stand there are not written.
+// The limits of two callers of a table, and what each announces. A word that stands in the cell already is not written again, but for the
+// number of the entry.
 const TWICE: [([u64; 2], Announced, Announced); 2] = [
+    // 145 words, and then the number alone; and 3 words more, for which 147 steps are too few
     ([NO_LIMIT, 147], (5, 5, Some(146)), (5, 6, None)),
+    // 145 words and 3 more, for which 148 steps are enough; and the number alone, twice, as the words are 0
     ([148, NO_LIMIT], (5, 6, Some(148)), (0, 0, Some(2))),
 ];
 
-// Whether a caller without entries announces so.
+// Whether a caller without entries announces two operations in the steps that a row says.
 fn announces(shared: &Shared<Tally>, seat: CallerSeat, words: Announced) -> (CallerSeat, bool)
     requires seat { IsSeatOf shared.now seat }
     requires new { IsNew seat.known.local }
@@ -283,7 +287,7 @@ fn announces(shared: &Shared<Tally>, seat: CallerSeat, words: Announced) -> (Cal
     (seat, steps.ok() == want)
 }
 
-// Whether both callers of a table announce so.
+// Whether both callers of a table announce two operations each in the steps that a row says.
 fn both_announce(
     alloc: Global,
     limits: &[u64; 2],

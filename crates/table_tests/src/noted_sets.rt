@@ -8,7 +8,8 @@ use redo_set::{WriteSet, apply_set};
 use std::alloc::{AllocError, Global};
 use std::test::Fail;
 
-/// Pairs that a set takes; how many accesses are then allowed; the words that are then not 0; and whether the set was stored whole.
+/// The pairs that a set takes; how many accesses its storing is allowed; the words that are not 0 after it, by address; and whether the set was
+/// stored whole.
 struct Row<'a> {
     pairs: &'a [(u64, u64)],
     left: Option<u64>,
@@ -16,35 +17,43 @@ struct Row<'a> {
     whole: bool,
 }
 
+// Two values for one address: both are stored, one after the other.
 const TWICE: [(u64, u64); 2] = [(1168, 1), (1168, 2)];
 
+// The first address of a region, the last, and the first again.
 const THREE: [(u64, u64); 3] = [(0, 7), (1679, 8), (0, 9)];
 
+// Sets that are stored with as many accesses as they need, and with fewer.
 static ROWS: [Row<'static>; 6] = [
+    // the second value stands
     Row {
         pairs: &TWICE,
         left: None,
         words: &[(1168, 2)],
         whole: true,
     },
+    // one access stores the first value
     Row {
         pairs: &TWICE,
         left: Some(1),
         words: &[(1168, 1)],
         whole: false,
     },
+    // three accesses store all three pairs
     Row {
         pairs: &THREE,
         left: Some(3),
         words: &[(0, 9), (1679, 8)],
         whole: true,
     },
+    // two accesses do not store the third pair
     Row {
         pairs: &THREE,
         left: Some(2),
         words: &[(0, 7), (1679, 8)],
         whole: false,
     },
+    // without an access nothing is stored, which is the whole set only where it is empty
     Row {
         pairs: &TWICE,
         left: Some(0),
@@ -59,7 +68,7 @@ static ROWS: [Row<'static>; 6] = [
     },
 ];
 
-// Notes pairs of addresses below 1,680 up to the first that is not taken, and tells how many were.
+// Puts pairs of addresses below 1,680 into a set up to the first that it does not take, and returns how many it took.
 fn note_all(set: &mut WriteSet, pairs: &[(u64, u64)]) -> usize
     requires { AreWithin 1680 set.old }
     ensures { AreWithin 1680 set.new }
@@ -72,7 +81,7 @@ fn note_all(set: &mut WriteSet, pairs: &[(u64, u64)]) -> usize
     pairs.len()
 }
 
-// The words after a set was stored over 1,680 zeros with this many accesses allowed, and whether it was stored whole.
+// The words after a set was stored over 1,680 zeros with `left` accesses allowed, and whether it was stored whole.
 fn stored(alloc: Global, set: &WriteSet, left: Option<u64>) -> Result<(Vec<u64>, bool), AllocError>
     requires { AreWithin 1680 set.now }
 {
@@ -81,7 +90,7 @@ fn stored(alloc: Global, set: &WriteSet, left: Option<u64>) -> Result<(Vec<u64>,
     Ok((mem.into_words(), whole))
 }
 
-// The word that pairs give at an address, 0 where none does.
+// The word that the first pair of an address gives it, or 0 where there is none.
 fn word_at(pairs: &[(u64, u64)], at: u64) -> u64 {
     for (there, v) in pairs {
         if *there == at {
@@ -91,7 +100,7 @@ fn word_at(pairs: &[(u64, u64)], at: u64) -> u64 {
     0
 }
 
-// Whether there are 1,680 words, and these are those that are not 0.
+// Whether there are 1,680 words, which are the wanted ones at their addresses and 0 elsewhere.
 fn are_words(words: &[u64], wanted: &[(u64, u64)]) -> bool {
     for (at, word) in words.iter().enumerate() {
         if *word != word_at(wanted, at as u64) {
@@ -101,7 +110,7 @@ fn are_words(words: &[u64], wanted: &[(u64, u64)]) -> bool {
     words.len() == 1680
 }
 
-// Whether the set, which is emptied first, is as a row says.
+// Empties a set and fills it with a row's pairs; returns whether it takes all of them and is stored as the row says.
 fn has_row_words(alloc: Global, set: &mut WriteSet, row: &Row) -> Result<bool, AllocError> {
     set.clear();
     let taken = note_all(set, row.pairs);
@@ -115,7 +124,7 @@ fn has_row_words(alloc: Global, set: &mut WriteSet, row: &Row) -> Result<bool, A
     )
 }
 
-// The first row that does not hold, of one set that takes them in turn.
+// The number of the first row that goes wrong, with one set that takes the pairs of each row in turn.
 fn first_wrong(alloc: Global, rows: &[Row]) -> Result<Option<usize>, AllocError> {
     let mut set = WriteSet::new(alloc)?;
     for (i, row) in rows.iter().enumerate() {

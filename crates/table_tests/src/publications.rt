@@ -32,7 +32,7 @@ fn may_publish(callers: u32, seat: &CallerSeat) -> bool
     }
 }
 
-// What a publication found, and its token.
+// The code that a publication found in CUR, and its win or, where it lost, the right that it had.
 type Published = (u64, Result<Won, Downgraded>);
 
 // Publishes a replica that was downgraded, where its caller may.
@@ -76,12 +76,12 @@ fn link_and_renew<O: Object>(
     }
 }
 
-// Whether a win is of this code, over this one, and of this caller.
+// Whether a win has this code, over the code `old`, and is this caller's.
 fn is_won(won: &Won, code: u64, old: u64, caller: u32) -> bool {
     won.code() == code && won.old() == old && won.caller() == caller
 }
 
-// Whether the first caller publishes replica 1 over the opening code, with this code.
+// Whether the first caller links an entry and publishes replica 1 at place 1, by code 5, over the opening code 0.
 fn first_publishes<O: Object>(shared: &Shared<O>, seat: &mut CallerSeat) -> Option<bool>
     requires new { IsNew shared.now seat.old }
     requires sized { IsSized (O.line_count shared.now.object) shared.now }
@@ -99,7 +99,8 @@ fn first_publishes<O: Object>(shared: &Shared<O>, seat: &mut CallerSeat) -> Opti
     }
 }
 
-// Whether the second caller is told that code where it publishes replica 3 over the opening one, and then publishes it.
+// Whether the second caller, which expects the opening code in CUR, finds code 5 where it publishes replica 3, and then publishes it by
+// code 11 at place 2.
 fn second_publishes<O: Object>(shared: &Shared<O>, seat: &mut CallerSeat) -> Option<bool>
     requires new { IsNew shared.now seat.old }
     requires sized { IsSized (O.line_count shared.now.object) shared.now }
@@ -119,8 +120,7 @@ fn second_publishes<O: Object>(shared: &Shared<O>, seat: &mut CallerSeat) -> Opt
     }
 }
 
-// Whether two callers publish one after another. The second first expects the opening code, and is told the first one's. The
-// closing hands out the codes of both, since neither retired its win.
+// Whether two callers publish one after another, and the closing of the table hands out the codes of both, since neither retired its win.
 fn are_handed_out(alloc: Global) -> Result<bool, AllocError> {
     let (shared, mut first, mut second) = made(alloc, Tally, &NO_LIMITS)?;
     let Some(is_first) = first_publishes(&shared, &mut first) else {

@@ -24,7 +24,7 @@ use replica::{Region, begin};
 use std::alloc::{AllocError, Global};
 use std::test::Fail;
 
-// Does the full step of an entry, where `left` are left before the end of places.
+// Does the full step of an entry on a memory that has room for `left` more entries before the end of places.
 pub(crate) fn step_one<O: Object, M: Memory>(
     object: &O,
     mem: &mut M,
@@ -41,7 +41,7 @@ pub(crate) fn step_one<O: Object, M: Memory>(
     full_step(object, mem, entry)
 }
 
-// Whether the first words of two memories are the same.
+// Whether the first `count` words of two memories are the same.
 fn same_words<M: Memory, N: Memory>(mem: &mut M, other: &mut N, count: u64) -> Result<bool, Halt>
     requires mem { count ≤ M.size mem.old }
     requires other { count ≤ N.size other.old }
@@ -62,7 +62,7 @@ fn same_words<M: Memory, N: Memory>(mem: &mut M, other: &mut N, count: u64) -> R
     Ok(true)
 }
 
-// Does an entry's full step in both memories, and says whether all their words are then the same.
+// Does the full step of an entry in two memories, and returns whether all their words are then the same.
 fn both<O: Object, M: Memory, N: Memory>(
     object: &O,
     mem: &mut M,
@@ -85,7 +85,7 @@ fn both<O: Object, M: Memory, N: Memory>(
     same_words(mem, plain, words)
 }
 
-// How many entries were done in both memories, until all were or a word differed.
+// Does the full steps of up to `count` entries in two memories, and returns how many left the same words in both, up to one that did not.
 fn agree<O: Object, M: Memory, N: Memory>(
     object: &O,
     mem: &mut M,
@@ -106,7 +106,8 @@ fn agree<O: Object, M: Memory, N: Memory>(
     Ok(count)
 }
 
-// The same over a replica held exclusively that is the image after its place.
+// Does the full steps of `count` entries on a replica held exclusively, which is the image after its place, and on a plain
+// memory; returns how many left the same words in both, up to one that did not.
 fn agree_held<O: Object, N: Memory>(
     shared: &Shared<O>,
     seat: &mut CallerSeat,
@@ -124,7 +125,8 @@ fn agree_held<O: Object, N: Memory>(
     agree(object, &mut region, plain, count)
 }
 
-// The same over a replica that is taken.
+// Takes replica `r`, and does the full steps of `count` entries on it and on a plain memory; returns how many left the same words in
+// both, up to one that did not, or `None` where the replica was not taken or is past place 2^20.
 fn agree_taken<O: Object, N: Memory>(
     shared: &Shared<O>,
     seat: &mut CallerSeat,
@@ -147,7 +149,8 @@ fn agree_taken<O: Object, N: Memory>(
     Ok(Some(agree_held(shared, seat, &held, plain, count)?))
 }
 
-// The same on replica 2 and on a plain memory of these words: its words then, where all entries were done.
+// Does the full steps of `count` entries on replica 2 and on a plain memory of these words; returns the words of the plain memory, where
+// each entry left the same words in both.
 fn agree_plain<O: Object>(
     shared: &Shared<O>,
     seat: &mut CallerSeat,
@@ -168,7 +171,7 @@ fn agree_plain<O: Object>(
     }
 }
 
-// The words of a plain memory after a thousand entries, where those of a replica were the same after each.
+// The words of a plain memory after the full steps of a thousand entries of an object, where a replica had the same words after each.
 fn agreed<O: Object>(alloc: Global, object: O) -> Result<Option<Vec<u64>>, AllocError>
     requires enough { 64 ≤ O.line_count object }
     requires small { O.line_count object ≤ 16384 }
@@ -179,7 +182,7 @@ fn agreed<O: Object>(alloc: Global, object: O) -> Result<Option<Vec<u64>>, Alloc
     Ok(agree_plain(&shared, &mut first, base.words.into_vec(), 1000))
 }
 
-// Whether there are `count` words after a thousand entries, and the place is right.
+// Whether there are `count` words, of which the first, the place, is 1,000.
 fn are_right(words: &Option<Vec<u64>>, count: usize) -> bool {
     match words {
         Some(words) => words.len() == count && words.first() == Some(&1000),
@@ -187,10 +190,11 @@ fn are_right(words: &Option<Vec<u64>>, count: usize) -> bool {
     }
 }
 
-// A thousand puts, removals, sums and readings on 50 keys: after each, every word of the replica is that of the plain memory. The same
-// words are operations of a running sum.
+// A thousand puts, removals, sums and readings on 50 keys: after each, every word of the replica is that of the plain memory. Then the
+// words of these commands are operations of Tally, a running sum.
 #[test]
 fn entries_are_replayed_word_by_word(rt: HostRuntime) -> Result<(), Fail> {
+    // a region has the 146 lines in front of the object part, and here 512 or 64 more
     let documents = agreed(rt.alloc(), DocStore::of(512))?;
     holds(&rt, are_right(&documents, 5264));
     let sums = agreed(rt.alloc(), Tally)?;

@@ -16,7 +16,7 @@ use crate::holds::holds;
 use crate::tables::{NO_LIMIT, NO_LIMITS, made};
 use cx_base::tally::Tally;
 use cx_base::{Halt, Memory, Object};
-use cx_core::Entry;
+use cx_core::{Entry, OBJECT_START};
 use cx_table::{CallerSeat, Downgraded, Exclusive, Shared, SharedHold};
 use mutation_queue::{LinkTried, Protected, announce, entry, link, protect, unprotect};
 use replica::{ReadRegion, Region, begin, flush, outcome, place, replay_one};
@@ -191,7 +191,7 @@ struct Seen {
     words: [u64; 2],
 }
 
-// Whether a caller that can share a replica sees it so.
+// Whether a caller takes a replica shared and finds in it what is wanted.
 fn sees<O: Object>(shared: &Shared<O>, seat: &mut CallerSeat, r: u64, want: &Seen) -> bool
     requires free { IsFree shared.now seat.old }
     requires sized { IsSized (O.line_count shared.now.object) shared.now }
@@ -218,7 +218,7 @@ fn share<O: Object>(
     Ok(right.ok())
 }
 
-// Whether a replica that is held shared is seen so.
+// Whether a caller finds in a replica that it holds shared what is wanted.
 fn sees_held<O: Object>(
     shared: &Shared<O>,
     seat: &mut CallerSeat,
@@ -235,7 +235,7 @@ fn sees_held<O: Object>(
     Ok(place == want.place && number == want.number && reply == want.reply && words == want.words)
 }
 
-// An operation of Tally that adds, and the reply with that sum.
+// The words of an operation of Tally that adds `n`, which are those of the reply with the sum `n` too.
 pub(crate) fn adds(n: u64) -> [u64; 144] {
     let mut op = [0; 144];
     op[0] = n;
@@ -291,7 +291,7 @@ fn stops_at(alloc: Global, limit: u64) -> Result<bool, AllocError> {
     Ok(is_done == (limit >= ALL) && first.steps() == limit.min(ALL))
 }
 
-// The first limit at which a caller does otherwise.
+// The first limit of steps at which a caller does not stop, or has not linked and renewed with as many steps as it takes.
 fn first_wrong_limit(alloc: Global) -> Result<Option<u64>, AllocError> {
     for limit in 0..=ALL {
         if !stops_at(alloc, limit)? {
@@ -325,7 +325,7 @@ fn update_and_renew<O: Object>(
 // A word that no region has when a table is made.
 const OTHER: u64 = 1 << 40;
 
-// Takes replica 1 and loads words of it, from a place on, where nobody holds it.
+// Takes replica 1, where nobody holds it, and loads words of it from the address `from` on.
 fn take_and_load<O: Object>(
     shared: &Shared<O>,
     seat: &mut CallerSeat,
@@ -343,22 +343,22 @@ fn take_and_load<O: Object>(
     }
 }
 
-// From a place on under a limit of steps, the words of a replica in the opening state: a try, and a step for each word. A word
-// that was not loaded is `OTHER`. The first word of the object part is Tally's version.
+// The address of the first of five words, a limit of steps, and the words that are loaded from a replica in the opening state. A try is one
+// step, and each load is one. A word that was not loaded is `OTHER`. The first word of the object part is Tally's version, 7.
 const LOADS: [(u64, u64, [u64; 5]); 10] = [
-    (1166, 0, [OTHER, OTHER, OTHER, OTHER, OTHER]),
-    (1166, 1, [OTHER, OTHER, OTHER, OTHER, OTHER]),
-    (1166, 2, [0, OTHER, OTHER, OTHER, OTHER]),
-    (1166, 3, [0, 0, OTHER, OTHER, OTHER]),
-    (1166, 4, [0, 0, 7, OTHER, OTHER]),
-    (1166, 5, [0, 0, 7, 0, OTHER]),
-    (1166, 6, [0, 0, 7, 0, 0]),
-    (1166, 7, [0, 0, 7, 0, 0]),
+    (OBJECT_START - 2, 0, [OTHER, OTHER, OTHER, OTHER, OTHER]),
+    (OBJECT_START - 2, 1, [OTHER, OTHER, OTHER, OTHER, OTHER]),
+    (OBJECT_START - 2, 2, [0, OTHER, OTHER, OTHER, OTHER]),
+    (OBJECT_START - 2, 3, [0, 0, OTHER, OTHER, OTHER]),
+    (OBJECT_START - 2, 4, [0, 0, 7, OTHER, OTHER]),
+    (OBJECT_START - 2, 5, [0, 0, 7, 0, OTHER]),
+    (OBJECT_START - 2, 6, [0, 0, 7, 0, 0]),
+    (OBJECT_START - 2, 7, [0, 0, 7, 0, 0]),
     (0, 6, [0, 0, 0, 0, 0]),
     (0, 3, [0, 0, OTHER, OTHER, OTHER]),
 ];
 
-// Whether a run of loads from a place on halts exactly at a limit of steps, and which words were loaded.
+// Whether the loads of five words from `from` on halt exactly at a limit of steps below 6, and the words loaded are those wanted.
 fn loads_at(alloc: Global, from: u64, limit: u64, want: &[u64; 5]) -> Result<bool, AllocError>
     requires { from ≤ 1675 }
 {
@@ -368,7 +368,7 @@ fn loads_at(alloc: Global, from: u64, limit: u64, want: &[u64; 5]) -> Result<boo
     Ok(is_done == (limit >= 6) && first.steps() == limit.min(6) && words == *want)
 }
 
-// The first run of loads that is otherwise.
+// The number of the first row of `LOADS` whose loads halt elsewhere, or give other words.
 fn first_wrong_loads(alloc: Global) -> Result<Option<usize>, AllocError> {
     for (i, (from, limit, want)) in LOADS.iter().enumerate() {
         if *from > 1675 || !loads_at(alloc, *from, *limit, want)? {

@@ -111,7 +111,7 @@ fn is_low_compared(alloc: Global) -> Result<bool, AllocError> {
     Ok(is_behind && is_free && is_kept && protects_from(&first, 100) && first.steps() == 5)
 }
 
-// Whether this was collected.
+// Whether a collection was made that found this FREE, and this least need of this holder.
 fn is_collected(
     collected: Option<Result<Collected, Halt>>,
     free: u64,
@@ -124,14 +124,14 @@ fn is_collected(
     }
 }
 
-// Whether a caller that collects notes another's need, and where no caller needs any, none. FREE never falls.
+// Whether a caller that collects finds the need of another caller, which is 103, and none where no caller needs a ticket. FREE stays 100.
 fn is_need_noted(alloc: Global) -> Result<bool, AllocError> {
     let (shared, mut first, mut second) = made(alloc, 100, &[NO_LIMIT, NO_LIMIT])?;
-    let noted = collect_beside(&shared, &mut first, &mut second, 100, 103);
-    let none = try_collect(&shared, &mut second, 90);
+    let beside_need = collect_beside(&shared, &mut first, &mut second, 100, 103);
+    let without_need = try_collect(&shared, &mut second, 90);
     Ok(
-        is_collected(noted, 100, 1, 103)
-            && is_collected(none, 100, 0, u64::MAX)
+        is_collected(beside_need, 100, 1, 103)
+            && is_collected(without_need, 100, 0, u64::MAX)
             && second.steps() == 8
             && second.scans() == 1,
     )
@@ -150,7 +150,7 @@ fn stops_at(alloc: Global, limit: u64) -> Result<bool, AllocError> {
     Ok(is_right && first.steps() == limit.min(5))
 }
 
-// The first limit at which a caller does otherwise.
+// The first limit of steps at which a caller neither stops nor has collected as it should.
 fn first_wrong_limit(alloc: Global) -> Result<Option<u64>, AllocError> {
     for limit in 0..7 {
         if !stops_at(alloc, limit)? {

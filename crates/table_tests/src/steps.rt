@@ -110,6 +110,7 @@ struct Board {
     ghost lawful: { LawfulBase 64 IsTally state.base },
 }
 
+// The model of one caller in the opening state.
 fn opened(alloc: Global) -> Result<Board, AllocError> {
     let base = Base::fresh(alloc, &Tally)?;
     Ok(Board {
@@ -122,7 +123,7 @@ fn steps(alloc: Global, board: &mut Board, kind: Kind) -> Result<bool, AllocErro
     apply(alloc, &Tally, &mut board.state, &Event { caller: 0, kind })
 }
 
-// The kinds of step that this makes.
+// The steps that `leave_one_dirty` makes, as the model has them.
 const STEPS: [Kind; 4] = [
     Kind::TryExclusive { r: 1 },
     Kind::StoreWord { r: 1, i: 5, v: 7 },
@@ -141,7 +142,7 @@ fn stepped(alloc: Global, count: usize) -> Result<Option<Board>, AllocError> {
     Ok(Some(model))
 }
 
-// Closes a table whose caller makes at most `limit` steps, where these are all or the limit halts it.
+// What a table leaves whose caller makes all four steps, or is halted after `limit` of them; `None` where it makes another number of steps.
 fn closed_at(alloc: Global, limit: u64) -> Result<Option<Remains>, AllocError> {
     let (shared, mut seat) = made(alloc, limit)?;
     let is_done = leave_one_dirty(&shared, &mut seat).is_ok();
@@ -168,8 +169,7 @@ fn are_marked(volatile: &[u64], durable: &[u64], dirty: &[bool]) -> bool {
     volatile.len() == dirty.len() && durable.len() == dirty.len()
 }
 
-// The first limit of steps, from 0 up to none, at which the closing hands out otherwise than the model, which makes as many of
-// the steps.
+// The first limit of steps at which the closing hands out other words or marks than the model has after as many steps.
 fn first_wrong_limit(alloc: Global) -> Result<Option<usize>, AllocError> {
     for limit in 0..5 {
         let (Some(left), Some(model)) = (closed_at(alloc, limit as u64)?, stepped(alloc, limit)?)
@@ -192,7 +192,7 @@ fn raise_opening(shared: &Shared<Tally>, seat: &mut CallerSeat) -> Result<u64, H
     shared.raise(seat, code, None)
 }
 
-// Whether a raise by the opening code finds the word that it raises, and its seat's numbers are as the model says, which allows it.
+// Whether a raise by the opening code finds this code in DUR, is counted in the seat, and is allowed by the model.
 fn is_raised(alloc: Global) -> Result<bool, AllocError> {
     let (shared, mut seat) = made(alloc, u64::MAX)?;
     let code = seat.seen_cur();

@@ -13,8 +13,10 @@ use cx_table::{CallerSeat, Remains, Shared};
 use mutation_queue::{LinkTried, announce, link};
 use std::alloc::{AllocError, Global};
 
+/// What stands for a limit of steps where there is none.
 pub(crate) const NO_LIMIT: u64 = u64::MAX;
 
+/// The limits of two callers of which neither has one.
 pub(crate) const NO_LIMITS: [u64; 2] = [NO_LIMIT, NO_LIMIT];
 
 /// A table of two callers, that opens with an object's first base, and its seats.

@@ -22,10 +22,10 @@ use std::rt::Runtime;
 use std::test::Fail;
 use std::thread::{Threads, join};
 
-// The ticket of a caller's entry, and its turns.
+// The ticket of a caller's entry, and the result of its turns.
 type Done = (u64, RaisesFront);
 
-// A caller without entries links one, and makes this many turns.
+// A caller without entries links one, and makes `count` turns.
 fn link_and_attempt<O: Object>(
     shared: &Shared<O>,
     seat: &mut CallerSeat,
@@ -45,7 +45,7 @@ fn link_and_attempt<O: Object>(
     }
 }
 
-// The same on a seat that goes to another thread and comes back.
+// Links an entry and makes `count` turns on a seat that goes to another thread, and returns the seat with what was done.
 fn on_thread<O: Object>(
     shared: &Shared<O>,
     mut seat: CallerSeat,
@@ -68,7 +68,7 @@ struct Ended {
     left: Remains,
 }
 
-// Two callers on threads of their own link an entry each and make this many turns.
+// Two callers on threads of their own link an entry each and make `count` turns each; both seats come back.
 fn joined<R: Runtime + Threads + Sync>(
     rt: &R,
     shared: &Shared<DocStore>,
@@ -92,7 +92,8 @@ fn joined<R: Runtime + Threads + Sync>(
     )
 }
 
-// The same on a table of their own, which is closed.
+// Makes a table on which two callers on threads link an entry each and make `count` turns, closes it, and returns what they did and what it
+// left.
 fn two_threads<R: Runtime + Threads + Sync>(
     rt: &R,
     alloc: Global,
@@ -105,7 +106,7 @@ fn two_threads<R: Runtime + Threads + Sync>(
     Ok(both_ended(one, other, closed(alloc, shared, first, second)?))
 }
 
-// What they did, where both made their turns and the table was closed.
+// What two callers did and their table left, where both made their turns and the table was closed.
 fn both_ended(first: Option<Done>, second: Option<Done>, left: Option<Remains>) -> Option<Ended> {
     Some(Ended {
         first: first?,
@@ -131,7 +132,7 @@ fn after_both(alloc: Global, one: &Entry, other: &Entry) -> Result<Option<Vec<u6
     Ok(Some(plain.into_words()))
 }
 
-// How many replicas were left with these words in memory and on the medium, with no word dirty.
+// How many of the four replicas were left with these words in memory and on the medium, with no word dirty.
 fn clean_with(left: &Remains, words: &[u64]) -> u64 {
     let mut count = 0u64;
     for r in 0..4 {
@@ -142,12 +143,12 @@ fn clean_with(left: &Remains, words: &[u64]) -> u64 {
     count
 }
 
-// How many were left as the image that a table opens with.
+// How many replicas were left as the image that a table opens with.
 fn at_opening(alloc: Global, left: &Remains) -> Result<u64, AllocError> {
     Ok(clean_with(left, &opening(alloc)?))
 }
 
-// How many were left as the image after one entry.
+// How many replicas were left as the image after one entry.
 fn after_first(alloc: Global, left: &Remains, one: &Entry) -> Result<u64, AllocError>
     requires { one.now.caller < 8 }
 {
@@ -155,7 +156,7 @@ fn after_first(alloc: Global, left: &Remains, one: &Entry) -> Result<u64, AllocE
     Ok(clean_with(left, &words))
 }
 
-// How many were left as the image after two entries.
+// How many replicas were left as the image after two entries.
 fn after_second(
     alloc: Global,
     left: &Remains,
@@ -171,7 +172,8 @@ fn after_second(
     }
 }
 
-// The places of all replicas, added up, where each was left as the image after its place.
+// The sum of the places of all four replicas, where each was left as the image after no entry, after one, or after both. `at_place_0` and its
+// neighbours count the replicas at each place.
 fn places(
     alloc: Global,
     left: &Remains,
@@ -181,18 +183,20 @@ fn places(
     requires one { (one.now.caller < 8) × Words 144 one.now.op }
     requires other { (other.now.caller < 8) × Words 144 other.now.op }
 {
-    let none = at_opening(alloc, left)?;
-    let first = after_first(alloc, left, one)?;
-    let both = after_second(alloc, left, one, other)?;
-    let all = none.saturating_add(first).saturating_add(both);
+    let at_place_0 = at_opening(alloc, left)?;
+    let at_place_1 = after_first(alloc, left, one)?;
+    let at_place_2 = after_second(alloc, left, one, other)?;
+    let all = at_place_0
+        .saturating_add(at_place_1)
+        .saturating_add(at_place_2);
     Ok(if all == 4 {
-        Some(first.saturating_add(both.saturating_mul(2)))
+        Some(at_place_1.saturating_add(at_place_2.saturating_mul(2)))
     } else {
         None
     })
 }
 
-// The same of what two threads left, in the order of their entries.
+// The sum of the places of all four replicas that two threads left, where each is an image of their entries in the order of the tickets.
 fn places_of(
     alloc: Global,
     ended: &Ended,
@@ -206,7 +210,7 @@ fn places_of(
     }
 }
 
-// The entries that two callers replayed, where each made `count` turns rightly.
+// How many entries two callers replayed, where each made `count` turns and all places were right.
 fn replayed(first: &RaisesFront, second: &RaisesFront, count: u64) -> Option<u64> {
     let all = first.taken.saturating_add(first.refused) == count
         && second.taken.saturating_add(second.refused) == count;
@@ -217,8 +221,8 @@ fn replayed(first: &RaisesFront, second: &RaisesFront, count: u64) -> Option<u64
     }
 }
 
-// Whether two threads on a table of their own each made this many turns rightly, and left images on all replicas, with as many
-// entries as they replayed. It gives how many that is.
+// How many entries two threads replayed on a table of their own, where each made `count` turns, all places were right, and the places of the
+// images that are left add up to this number.
 fn turned<R: Runtime + Threads + Sync>(
     rt: &R,
     alloc: Global,
@@ -233,7 +237,8 @@ fn turned<R: Runtime + Threads + Sync>(
     Ok(if places == entries { entries } else { None })
 }
 
-// The entries that were replayed on this many tables, where each was left rightly.
+// How many entries were replayed on `tables` tables, on each of which two threads make a hundred turns each; `None` where a table was left
+// with something wrong.
 fn replayed_on<R: Runtime + Threads + Sync>(
     rt: &R,
     alloc: Global,

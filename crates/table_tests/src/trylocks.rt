@@ -43,7 +43,7 @@ fn refused(shared: &Shared<Tally>, seat: &mut CallerSeat, r: u32) -> Option<u64>
     }
 }
 
-// Whether a caller takes one replica exclusively and tries another one shared: it gets that too, or finds this word.
+// Whether `caller` takes replica `r` exclusively, and then gets replica `q` shared or, where `found` is a word, is refused and finds this word.
 fn tries_both(
     shared: &Shared<Tally>,
     seat: &mut CallerSeat,
@@ -67,7 +67,7 @@ fn tries_both(
     is_other && held.replica() == r && held.caller() == caller
 }
 
-// The mark of an exclusive right.
+// The mark of an exclusive right in a lock word, 2^32.
 const EXCLUSIVE: u64 = 4_294_967_296;
 
 // Whether the words that two callers find beside each other's rights are exact.
@@ -92,7 +92,7 @@ fn is_refused_then_tries(shared: &Shared<Tally>, seat: &mut CallerSeat) -> bool
     tries_both(shared, seat, 1, 2, 1, Some(EXCLUSIVE))
 }
 
-// Takes a replica exclusively and gives it up again, or gives the word found.
+// Takes a replica exclusively and gives it up again, or returns the word found where it was refused.
 fn take_and_release(
     shared: &Shared<Tally>,
     seat: &mut CallerSeat,
@@ -111,7 +111,7 @@ fn take_and_release(
     }
 }
 
-// Takes a replica shared and gives it up again, or gives the word found.
+// Takes a replica shared and gives it up again, or returns the word found where it was refused.
 fn share_and_release(
     shared: &Shared<Tally>,
     seat: &mut CallerSeat,
@@ -194,8 +194,8 @@ fn are_given_up(alloc: Global) -> Result<bool, AllocError> {
     )
 }
 
-// While one caller holds a replica exclusively, the other one tries it shared: the answer to that, and the word that is
-// left after the first one released its right, where it is not 0.
+// The answer to a shared try of the second caller while the first holds the replica exclusively, and the lock word that is left after the
+// first released its right, where it is not 0.
 fn words_left(
     shared: &Shared<Tally>,
     first: &mut CallerSeat,
@@ -215,15 +215,18 @@ fn words_left(
     Ok((tried, left))
 }
 
-// For each limit of steps of the other caller, the word that it found and the one that is left then. With one step the passer's
-// mark stands.
+// The word that the second caller finds in its shared try, and the lock word that is left when the first has released its right, where it is
+// not 0. The number of the row is the second caller's limit of steps.
 const REFUSED: [(Option<u64>, Option<u64>); 3] = [
+    // the try is not begun
     (None, None),
+    // the passer's mark is left
     (None, Some(1)),
+    // the passer's mark is taken back
     (Some(EXCLUSIVE), None),
 ];
 
-// Whether a shared try that is refused stops at a limit of steps, or finds the word, and what it leaves.
+// Whether a shared try beside an exclusive right, with a limit of steps, finds the word `found` or halts, and leaves the lock word `left`.
 fn stops_at(
     alloc: Global,
     limit: u64,
@@ -242,7 +245,7 @@ fn stops_at(
     Ok(is_tried && word == left && second.steps() == limit)
 }
 
-// The first limit at which a caller does otherwise.
+// The first limit of steps at which a try finds or leaves another word than its row says.
 fn first_wrong_limit(alloc: Global) -> Result<Option<usize>, AllocError> {
     for (limit, (found, left)) in REFUSED.iter().enumerate() {
         if !stops_at(alloc, limit as u64, *found, *left)? {

@@ -149,7 +149,7 @@ pub(crate) fn turn<O: Object>(
     }
 }
 
-/// Makes this many turns, on each replica in turn from the caller's first on.
+/// Makes `count` turns, on one replica after another from the caller's first on.
 pub(crate) fn make_attempts<O: Object>(
     shared: &Shared<O>,
     seat: &mut CallerSeat,
@@ -177,7 +177,8 @@ pub(crate) fn make_attempts<O: Object>(
     Ok(done)
 }
 
-// The turns with one more. Its place is the one above the ticket, or where it was above that before, the same.
+// The result of turns with one more turn. Its place is right where it is the one above the ticket, or was above the ticket before and is the
+// same.
 fn noted(mut done: RaisesFront, places: Option<Places>, ticket: u64) -> RaisesFront {
     match places {
         None => done.refused = done.refused.saturating_add(1),

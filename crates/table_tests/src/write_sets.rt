@@ -9,15 +9,15 @@ use core_guards::callers::Callers;
 use core_guards::queue::{protects, shows_ticket};
 use cx_base::tally::Tally;
 use cx_base::{Halt, link_cell};
-use cx_core::{Protection, SeenOffer};
+use cx_core::{OBJECT_START, Protection, SeenOffer};
 use cx_table::{CallerSeat, Shared};
 use mutation_queue::{Protected, protect};
 use redo_set::{WriteSet, take};
 use std::alloc::{AllocError, Global};
 use std::test::Fail;
 
-// The words that these tests write into a set: one pair.
-const WORDS: [u64; 3] = [1, 1168, 9];
+// The words that these tests write into a set: one pair, of the first word of the object part.
+const WORDS: [u64; 3] = [1, OBJECT_START, 9];
 
 // Writes a word into the set of the caller's entry with a ticket, where it may be written.
 fn write(
@@ -35,7 +35,7 @@ fn write(
     Some(shared.write_set(seat, j, i, v))
 }
 
-// How many of the words a caller writes into the set of its entry with ticket 0.
+// Writes `WORDS` into the set of the caller's entry with ticket 0, and returns how many it could write.
 fn written(shared: &Shared<Tally>, seat: &mut CallerSeat) -> u64
     requires seat { IsSeatOf shared.now seat.old }
     ensures seat { IsSeatOf shared.now seat.new }
@@ -126,7 +126,7 @@ fn is_not_taken(alloc: Global) -> Result<bool, AllocError> {
     )
 }
 
-// Whether a caller with a limit of steps writes as many of the words as that allows: 147 steps link its entry.
+// Whether a caller with a limit of steps writes as many of the three words as the limit allows: 147 steps link its entry before.
 fn writes_up_to(alloc: Global, limit: u64) -> Result<bool, AllocError>
     requires { 147 ≤ limit }
 {
@@ -149,7 +149,7 @@ fn takes_up_to(alloc: Global, limit: u64) -> Result<bool, AllocError> {
     Ok(is_right && second.steps() == limit.min(4))
 }
 
-// The first of some limits at which a caller does otherwise.
+// The first limit at which a caller that looks for an offer, or one that writes a set, does not stop where it should.
 fn first_wrong_limit(alloc: Global) -> Result<Option<u64>, AllocError> {
     for limit in 0..6 {
         if !takes_up_to(alloc, limit)? || !writes_up_to(alloc, 147 + limit)? {

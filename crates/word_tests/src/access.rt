@@ -13,10 +13,13 @@ use doc_store::DocStore;
 use std::alloc::{AllocError, Global};
 use std::test::Fail;
 
+/// The kind of a put.
 pub(crate) const PUT: u64 = 1;
 
+/// The kind of a removal.
 pub(crate) const DEL: u64 = 2;
 
+/// The kind of a get.
 const GET: u64 = 4;
 
 /// The n-th key of 16 bytes.
@@ -66,7 +69,7 @@ fn most_loads<M: Memory>(store: &DocStore, mem: &mut Counting<M>, keys: u64) -> 
     Ok(most)
 }
 
-/// The height of the root that the header names.
+/// The height of the root that the header of an image names.
 fn height_in(words: &[u64]) -> Option<u64> {
     let root = *words.get(1)?;
     words
@@ -107,6 +110,7 @@ fn a_get_among_1023_rising_keys_loads_few_words(rt: HostRuntime) -> Result<(), F
 /// the most stores, and the most of both.
 type Limited = (u64, u64, u64, &'static [u8], [u64; 4]);
 
+/// What stands in a row for a number without a limit.
 const NO_LIMIT: u64 = u64::MAX;
 
 // Each operation visits at most 7, 14, 20 and 25 nodes: the greatest v with 2^v <= 2 * (n + 1)^2. A get loads 5 v + 10
@@ -182,8 +186,9 @@ static GROWING: [Limited; 20] = [
     (5000, DEL, 5000, b"", [NO_LIMIT, 0, NO_LIMIT, 264]),
 ];
 
-// Each put stores its revision in two words. 13 words hold 100 letters. The last of them gets four letters more, and the length changes.
+// Puts over the document of one of five keys, one after the other. Each put stores its revision in two words.
 static OVER: [Limited; 4] = [
+    // 100 letters in place of 16
     (
         5,
         PUT,
@@ -191,6 +196,7 @@ static OVER: [Limited; 4] = [
         b"xxxxxxxxxxxxxxxxxxxxxxxxxxxxxxxxxxxxxxxxxxxxxxxxxxxxxxxxxxxxxxxxxxxxxxxxxxxxxxxxxxxxxxxxxxxxxxxxxxxx",
         [NO_LIMIT, 14, NO_LIMIT, NO_LIMIT],
     ),
+    // the same letters again
     (
         5,
         PUT,
@@ -198,6 +204,7 @@ static OVER: [Limited; 4] = [
         b"xxxxxxxxxxxxxxxxxxxxxxxxxxxxxxxxxxxxxxxxxxxxxxxxxxxxxxxxxxxxxxxxxxxxxxxxxxxxxxxxxxxxxxxxxxxxxxxxxxxx",
         [NO_LIMIT, 2, 2, NO_LIMIT],
     ),
+    // other letters, in 13 words
     (
         5,
         PUT,
@@ -205,6 +212,7 @@ static OVER: [Limited; 4] = [
         b"yyyyyyyyyyyyyyyyyyyyyyyyyyyyyyyyyyyyyyyyyyyyyyyyyyyyyyyyyyyyyyyyyyyyyyyyyyyyyyyyyyyyyyyyyyyyyyyyyyyy",
         [NO_LIMIT, 15, 15, NO_LIMIT],
     ),
+    // four letters more in the last of these words, and another length
     (
         5,
         PUT,
@@ -223,7 +231,7 @@ fn are_within(loads: u64, stores: u64, limits: &[u64; 4]) -> bool {
         && loads.saturating_add(stores) <= most
 }
 
-/// Puts the keys that a row wants, and says whether its operation is within its limits.
+/// Puts the keys that a row wants, from number `there` on, and returns whether its operation is within its limits.
 fn is_limited<M: Memory>(
     store: &DocStore,
     mem: &mut Counting<M>,

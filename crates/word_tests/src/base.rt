@@ -25,7 +25,7 @@ fn codes_of_the_worked_row(rt: HostRuntime) {
     holds(&rt, link_code(1, 0, 0) == 1);
 }
 
-// Whether bytes are packed so into three words, whatever these were.
+// Whether bytes packed into three words, which were 5 before, give the words `wanted`.
 fn are_packed(bytes: &[u8], wanted: &[u64; 3]) -> bool
     requires { length bytes.now ≤ 24 }
 {
@@ -34,15 +34,16 @@ fn are_packed(bytes: &[u8], wanted: &[u64; 3]) -> bool
     words == *wanted
 }
 
-// Whether the first bytes of two words are these.
+// Whether the first nine bytes unpacked from two words are those of `wanted`.
 fn are_unpacked(words: &[u64; 2], wanted: &[u8; 9]) -> bool {
     let mut bytes = [1; 9];
     unpack(words, &mut bytes);
     bytes == *wanted
 }
 
-// Whether that many bytes, which differ from their neighbours, are packed and given back, with zeros behind them.
-fn go_through(len: usize) -> bool {
+// Whether `len` bytes, up to 1,024, come back when they are packed and unpacked, with zeros behind them. Each byte differs from its
+// neighbours.
+fn come_back(len: usize) -> bool {
     if len > 1024 {
         return false;
     }
@@ -57,18 +58,20 @@ fn go_through(len: usize) -> bool {
     back == bytes
 }
 
-// The first length that does not.
+// The first length whose bytes do not come back.
 fn first_other_length(lengths: &[usize]) -> Option<usize> {
     for len in lengths {
-        if !go_through(*len) {
+        if !come_back(*len) {
             return Some(*len);
         }
     }
     None
 }
 
+// The bytes of one word, and one more.
 const NINE: [u8; 9] = [1, 2, 3, 4, 5, 6, 7, 8, 9];
 
+// Lengths in bytes: none and one, about the 8 of a word and the 56 of seven words, and the most that 128 words hold.
 const LENGTHS: [usize; 8] = [0, 1, 7, 8, 9, 56, 57, 1024];
 
 #[test]
@@ -79,14 +82,14 @@ fn bytes_are_packed(rt: HostRuntime) {
     holds(&rt, first_other_length(&LENGTHS).is_none());
 }
 
-// That many words of 0.
+// `len` words of 0.
 fn zeros(alloc: Global, len: usize) -> Result<Vec<u64>, AllocError>
     ensures { IfOk result (λ words. words.items ≡ replicate len 0) }
 {
     vec![in alloc; 0; len]
 }
 
-// The opening image over words of 0, with a limit: what a caller of `format` knows.
+// The opening image of Tally, as `format` makes it over 512 words of 0 with `left` accesses allowed, or its `Halt`.
 fn opening(alloc: Global, left: Option<u64>) -> Result<Result<Vec<u64>, Halt>, AllocError>
     ensures { IfOk result (λ made. IfOk made (λ words. words.items ≡ tally_opening)) }
 {
@@ -97,7 +100,7 @@ fn opening(alloc: Global, left: Option<u64>) -> Result<Result<Vec<u64>, Halt>, A
     }
 }
 
-// The words and the reply after one step: what a caller of `run` knows.
+// The words and the reply after one step of Tally on an image, with `left` accesses allowed.
 fn stepped(
     words: Vec<u64>,
     left: Option<u64>,
@@ -111,7 +114,7 @@ fn stepped(
     Ok((memory.into_words(), reply))
 }
 
-// 144 words of 0 behind these two: an operation, or a reply.
+// The 144 words of an operation or a reply: these two come first, and all others are 0.
 fn words_of(first: u64, second: u64) -> [u64; 144] {
     let mut words = [0; 144];
     words[0] = first;
@@ -119,7 +122,7 @@ fn words_of(first: u64, second: u64) -> [u64; 144] {
     words
 }
 
-// The words after a step on words that are lawful, where it is answered with this sum.
+// The words after one step of Tally, without a limit of accesses; `None` where the words before are no image, or the reply is not `sum`.
 fn step(
     alloc: Global,
     words: Vec<u64>,
@@ -138,10 +141,16 @@ fn step(
     Ok(Some(made.0))
 }
 
-// Operations in turn, by their first two words, and the sum that each is answered. One whose second word is 1 reads.
-const STEPS: [(u64, u64, u64); 3] = [(5, 0, 5), (u64::MAX, 0, 4), (100, 1, 4)];
+// Operations in turn: the first word, which is added; the second word, which is 1 in one that reads; and the sum that is the reply.
+const STEPS: [(u64, u64, u64); 3] = [
+    (5, 0, 5),
+    // the sum goes on from 0 at the end of 64 bits
+    (u64::MAX, 0, 4),
+    // nothing is added by one that reads
+    (100, 1, 4),
+];
 
-// Whether these steps on the opening image are answered so, and leave the image with the last sum.
+// Whether the steps of rows, in turn from the opening image on, are answered the sums of the rows, and leave the image with the last sum.
 fn are_summed(alloc: Global, rows: &[(u64, u64, u64)]) -> Result<bool, AllocError> {
     let mut words = match opening(alloc, None)? {
         Ok(words) => words,
@@ -158,7 +167,7 @@ fn are_summed(alloc: Global, rows: &[(u64, u64, u64)]) -> Result<bool, AllocErro
     Ok(is_image(&words, last))
 }
 
-// Whether words are the image with this sum.
+// Whether words are the image of Tally with this sum: its version, which is 7, the sum, and 510 words of 0.
 fn is_image(words: &[u64], sum: u64) -> bool {
     words.len() == 512
         && words[0] == 7
@@ -166,10 +175,11 @@ fn is_image(words: &[u64], sum: u64) -> bool {
         && words[2..].iter().all(|word| *word == 0)
 }
 
-// Words of 0 behind a first one: how many, the first, and whether they are lawful.
+// How many words, the first of them, which words of 0 follow, and whether they are an image. The second row
+// has a word too few, and the third another version.
 const CHECKED: [(usize, u64, bool); 3] = [(512, 7, true), (511, 7, false), (512, 8, false)];
 
-// The first row of words of which the check says otherwise.
+// The first row of which `check` does not return what the row says.
 fn first_other_check(
     alloc: Global,
     rows: &[(usize, u64, bool)],
@@ -197,7 +207,7 @@ fn tally_over_a_vector(rt: HostRuntime) {
     holds(&rt, !Tally.reads(&words_of(1, 0)));
 }
 
-// The first limit below 514 under which `format` halts, or does not, otherwise.
+// The first limit of accesses, below 514, at which `format` goes wrong: it has to halt below 512, and to succeed from there on.
 fn first_other_format(alloc: Global) -> Result<Option<u64>, AllocError> {
     for left in 0..514 {
         if opening(alloc, Some(left))?.is_ok() != (512 <= left) {
@@ -232,7 +242,9 @@ fn first_other_run(alloc: Global, op: &[u64; 144], needs: u64) -> Result<Option<
 fn tally_halts_at_each_step(rt: HostRuntime) {
     let alloc = rt.alloc();
     all_hold(&rt, first_other_format(alloc));
+    // an addition loads the sum and stores it
     all_hold(&rt, first_other_run(alloc, &words_of(3, 0), 2));
+    // a reading loads it
     all_hold(&rt, first_other_run(alloc, &words_of(100, 1), 1));
 }
 
@@ -245,7 +257,7 @@ fn counts_accesses(alloc: Global) -> Result<bool, AllocError> {
     Ok(formatted && loaded && refused && memory.accesses() == 514)
 }
 
-// A step over any memory, also one of which no word is known before it is stored.
+// Makes the opening image in any memory, also in one of which no word is known before it is stored, and does a step of Tally there.
 fn format_and_run<M: Memory>(memory: &mut M, op: &[u64; 144]) -> Result<[u64; 144], Halt>
     requires size { M.size memory.old ≡ 512 }
     requires writable { IsTrue (M.writable memory.old) }
@@ -255,7 +267,7 @@ fn format_and_run<M: Memory>(memory: &mut M, op: &[u64; 144]) -> Result<[u64; 14
     Tally.run(memory, op)
 }
 
-// Whether the same over a memory with notes adds 9.
+// Whether the opening image and a step that adds 9, in a memory with notes, leave 9 as the sum: 512 accesses, 2, and 1 that loads it here.
 fn adds_nine(alloc: Global) -> Result<bool, AllocError> {
     let mut memory = Noted::of(alloc, zeros(alloc, 512)?, 600)?;
     let answered = format_and_run(&mut memory, &words_of(9, 0)) == Ok(words_of(9, 0));
@@ -268,7 +280,7 @@ fn tally_over_a_memory_with_notes(rt: HostRuntime) {
     holds_with_memory(&rt, adds_nine(rt.alloc()));
 }
 
-// A word below a bound, and words put behind it, over any memory.
+// Loads word 0, which is below 10, stores 3, 4 and this word plus 5 over the words 2 to 4, and returns word 4.
 fn load_and_store<M: Memory>(memory: &mut M) -> Result<u64, Halt>
     requires size { M.size memory.old ≡ 8 }
     requires writable { IsTrue (M.writable memory.old) }
@@ -279,7 +291,7 @@ fn load_and_store<M: Memory>(memory: &mut M) -> Result<u64, Halt>
     memory.load(4)
 }
 
-// The same over eight words.
+// What `load_and_store` returns over a memory of these eight words that allows `left` accesses.
 fn over_words(words: Vec<u64>, left: Option<u64>) -> Result<u64, Halt>
     requires long { length words.items ≡ 8 }
     requires below { slice_index words.items 0 < 10 }
@@ -296,7 +308,7 @@ const PUT: [([u64; 8], u64); 3] = [
     ([0, 0, 3, 4, 5, 0, 0, 0], 5),
 ];
 
-// Whether these words are put with `left` accesses left, or refused, as wanted.
+// Whether `load_and_store` over these words, with `left` accesses allowed, returns what is wanted.
 fn is_put(
     alloc: Global,
     words: &[u64; 8],
@@ -310,7 +322,7 @@ fn is_put(
     Ok(over_words(words, Some(left)) == wanted)
 }
 
-// The first row that needs more accesses or fewer.
+// The number of the first row over whose words `load_and_store` takes more accesses than the row says, or fewer.
 fn first_other_put(alloc: Global, rows: &[([u64; 8], u64)]) -> Result<Option<usize>, AllocError> {
     for (i, (words, accesses)) in rows.iter().enumerate() {
         for left in 0..*accesses {
@@ -330,15 +342,17 @@ fn words_over_a_memory(rt: HostRuntime) {
     all_hold(&rt, first_other_put(rt.alloc(), &PUT));
 }
 
-// The text that goes through.
+// The text that a source gives, or a sink takes.
 const TEXT: &[u8; 8] = b"abcdefgh";
 
-// What a call answers: a number of bytes, or this where it failed.
+// What stands in a row for the number of bytes where a call fails.
 const FAILED: usize = usize::MAX;
 
-// Bytes a call, calls that fail, the room, and what the calls answer.
+// The most bytes that a call moves; the calls that fail, counted from 1; the room of the caller's buffer or of the sink; and what each
+// call returns in turn.
 type Chunks = (usize, &'static [u64], usize, &'static [usize]);
 
+// Rows of a source: each call of a row reads the text on from where the call before ended.
 const READ: [Chunks; 5] = [
     (3, &[2], 8, &[3, FAILED, 3, 2, 0, 0]),
     (8, &[], 8, &[8, 0]),
@@ -352,7 +366,7 @@ const READ: [Chunks; 5] = [
     (100, &[2], 100, &[8, FAILED, 0]),
 ];
 
-// Whether a source gives the text by calls that answer so.
+// Whether the calls of a source with a buffer of `room` bytes return these answers, and give the whole text.
 fn gives(source: &mut VecSource, room: usize, answers: &[usize]) -> bool
     requires some { 0 < room }
     requires few { room ≤ 100 }
@@ -378,7 +392,7 @@ fn gives(source: &mut VecSource, room: usize, answers: &[usize]) -> bool
     at == 8
 }
 
-// The first row of a source that gives the text otherwise.
+// The first row of a source whose calls return other answers than the row's, or another text.
 fn first_other_source(alloc: Global, rows: &[Chunks]) -> Result<Option<usize>, AllocError> {
     for (i, (chunk, fails, room, answers)) in rows.iter().enumerate() {
         if *chunk == 0 || *room == 0 || *room > 100 {
@@ -393,7 +407,7 @@ fn first_other_source(alloc: Global, rows: &[Chunks]) -> Result<Option<usize>, A
     Ok(None)
 }
 
-// The text is written on from where it stands.
+// Rows of a sink: each call of a row writes the text on from where the call before ended, and fails where there is no room left.
 const WRITTEN: [Chunks; 4] = [
     (3, &[2], 8, &[3, FAILED, 3, 2]),
     (8, &[], 5, &[5, FAILED, FAILED]),
@@ -401,7 +415,7 @@ const WRITTEN: [Chunks; 4] = [
     (100, &[], 8, &[8]),
 ];
 
-// Whether a sink takes the text by calls that answer so.
+// Whether the calls of a sink return these answers, and leave written what they took of the text.
 fn takes(sink: &mut VecSink, answers: &[usize]) -> bool {
     let text = &TEXT[..];
     let mut at = 0;
@@ -429,7 +443,7 @@ fn takes(sink: &mut VecSink, answers: &[usize]) -> bool {
     true
 }
 
-// The first row of a sink that takes the text otherwise.
+// The first row of a sink whose calls return other answers than the row's, or leave another text.
 fn first_other_sink(alloc: Global, rows: &[Chunks]) -> Result<Option<usize>, AllocError> {
     for (i, (chunk, fails, room, answers)) in rows.iter().enumerate() {
         if *chunk == 0 {

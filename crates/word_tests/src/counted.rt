@@ -57,14 +57,14 @@ impl<M: Memory> Memory for Counting<M> {
     }
 }
 
-/// No stores of a word that says nothing.
+/// A word of 2^64 - 1 that was not stored yet.
 const NO_STORES: WordStores = WordStores {
     stores: 0,
     before: u64::MAX,
     now: u64::MAX,
 };
 
-/// A memory of `lines` lines of words that say nothing, counted.
+/// A memory of `lines` lines, each word of which is 2^64 - 1, with its accesses counted from 0.
 pub(crate) fn counted_words(alloc: Global, lines: u64) -> Result<Counting<VecMemory>, AllocError>
     requires { lines ≤ 2 ^ 14 }
     ensures { IfOk result (λ c. length c.inner.words.items ≡ 8 * lines) }

@@ -10,7 +10,7 @@ use cx_core::{Base, Entry, full_step};
 use std::alloc::{AllocError, Global};
 use std::test::Fail;
 
-// 511 counters below 11.
+// The object of 64 lines: its version, and 511 counters, each of which stays below 11.
 fn counters() -> Counters
     ensures lines { result.lines ≡ 64 }
 {
@@ -26,7 +26,7 @@ fn words_of(op: Op, other: u64) -> [u64; 144] {
     }
 }
 
-// The words of a region after a full step, where they were a region of the object.
+// The words of a region after the full step of an entry; `None` where the words before are no region of the object, or the step halts.
 fn stepped<O: Object>(
     alloc: Global,
     object: &O,
@@ -53,9 +53,10 @@ fn stepped<O: Object>(
     }
 }
 
-// An operation, what it is answered, and what counter 0, 1 and the last one have then.
+// An operation, its reply, and the values of counter 0, of counter 1 and of the last one after it.
 type Case = (Op, Reply, [u64; 3]);
 
+// Operations in turn from the fresh base on. The bound is 11, and the last of the 511 counters is 510.
 const CASES: [Case; 12] = [
     (Op::Read { counter: 0 }, Reply::Value(0), [0, 0, 0]),
     (
@@ -127,7 +128,8 @@ const CASES: [Case; 12] = [
     (Op::Other, Reply::NoOperation, [10, 3, 7]),
 ];
 
-// Whether a region has this place, which is the number in caller 2's slot too, this reply there, and these counters.
+// Whether the place of a region and the number in caller 2's slot are `number`, the reply in this slot is `reply`, and the counters have these
+// values. The slot begins at word 298; counter 0 stands at word 1169, behind the version.
 fn are_words(words: &[u64], number: u64, reply: Reply, values: &[u64; 3]) -> bool {
     words.len() == 1680
         && words[0] == number
@@ -138,7 +140,8 @@ fn are_words(words: &[u64], number: u64, reply: Reply, values: &[u64; 3]) -> boo
         && words[1679] == values[2]
 }
 
-// The first case that comes out otherwise.
+// Does the operations of the cases in turn, as entries of caller 2 from the fresh base on; returns the number of the first that leaves another
+// region than its case says.
 fn first_other_case(alloc: Global, cases: &[Case]) -> Result<Option<usize>, AllocError> {
     let object = counters();
     let mut words = Base::fresh(alloc, &object)?.words.into_vec();
@@ -198,14 +201,14 @@ fn reading_reply<O: Object, M: Memory>(
     }
 }
 
-// 512 words that say nothing, with this many accesses allowed.
+// A memory of 512 words, all 2^64 - 1, that allows `left` accesses.
 fn memory(alloc: Global, left: Option<u64>) -> Result<VecMemory, AllocError>
     ensures { IfOk result (λ m. length m.words.items ≡ 512) }
 {
     Ok(VecMemory::of(vec![in alloc; u64::MAX; 512]?, left))
 }
 
-// An operation, and how many accesses it needs behind the 512 of `format`.
+// An operation, and how many accesses it needs behind the 512 of `format`: it loads a counter that there is, and stores it where that changes.
 const ACCESSES: [(Op, u64); 6] = [
     (
         Op::Add {
@@ -243,7 +246,7 @@ fn is_done(alloc: Global, op: Op, left: u64) -> Result<Option<bool>, AllocError>
     }
 }
 
-// The first operation that needs more accesses or fewer.
+// The number of the first operation that needs more accesses than its row says, or fewer.
 fn first_other_need(alloc: Global, rows: &[(Op, u64)]) -> Result<Option<usize>, AllocError> {
     for (i, (op, needs)) in rows.iter().enumerate() {
         for left in 0..3 {
@@ -261,7 +264,7 @@ fn halts_early(alloc: Global) -> Result<bool, AllocError> {
     Ok(opened(&counters(), &mut short) == Err(Halt))
 }
 
-// Whether a reading is answered as one, and no other operation is.
+// Whether a reading is answered by `query`, and an addition and words of no operation are no readings.
 fn readings_are_answered(alloc: Global) -> Result<bool, AllocError> {
     let object = counters();
     let mut memory = memory(alloc, None)?;
@@ -277,12 +280,15 @@ fn readings_are_answered(alloc: Global) -> Result<bool, AllocError> {
     Ok(reading && addition && nothing)
 }
 
-// How many words, a place and the word put there, and whether they are an image then.
+// How many words, a place and the word that is put there, and whether they are an image then. The others are 0 behind the version, which is 1.
 const IMAGES: [(usize, usize, u64, bool); 7] = [
+    // the last counter is as great as may be, and too great by one
     (512, 511, 10, true),
     (512, 511, 11, false),
     (512, 1, u64::MAX, false),
+    // another version
     (512, 0, 2, false),
+    // a word too few, a line too many, and no words
     (511, 1, 0, false),
     (520, 1, 0, false),
     (0, 1, 0, false),
@@ -299,7 +305,7 @@ fn is_image(alloc: Global, len: usize, at: usize, word: u64) -> Result<bool, All
     counters().check(alloc, &words)
 }
 
-// The first row of words of which the check says otherwise.
+// The number of the first row of which `check` does not return what the row says.
 fn first_other_image(
     alloc: Global,
     rows: &[(usize, usize, u64, bool)],

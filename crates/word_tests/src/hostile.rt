@@ -1,4 +1,4 @@
-//! Words that lie, and the pairs of words that do not.
+//! Images of which some words are wrong: lies, which have to be found. And the pairs of images without a lie.
 
 use crate::holds::holds;
 use doc_model::Pair;
@@ -13,6 +13,9 @@ const XS: u64 = 0x7878_7878_7878_7878;
 // Twenty-one lines of version 1 with the pairs a to e, each node before its blocks: b is the root, over a and d, which is over c and
 // e. The document of e has two blocks. Two lines are given back: their words behind the first, and the words of the last
 // two lines, are not looked at.
+//
+// The header has the version, the root, the first line given back, the end, how many lines are given back, how many pairs there are, and the last
+// revision. A node has its two children, its height, the line and the length of its key and of its document, and its revision.
 const IMAGE: [u64; 168] = [
     1, 4, 17, 19, 2, 5, 0, 0, // the header
     0, 0, 1, 2, 1, 3, 1, 0, // a
@@ -51,6 +54,7 @@ const UPGRADE: Lie = &[
     (13, 7, 1),
 ];
 
+// Lies in the header, of both versions.
 static HEADERS: [Lie; 17] = [
     // no root
     &[(0, 1, 0)],
@@ -88,7 +92,7 @@ static HEADERS: [Lie; 17] = [
     &[(0, 7, 1)],
 ];
 
-// What is a lie in version 1 alone.
+// Changes of the image that are lies in version 1 alone.
 static FIRST_VERSION: [Lie; 7] = [
     // another version
     &[(0, 0, 2)],
@@ -113,7 +117,7 @@ static FIRST_VERSION: [Lie; 7] = [
     &[(0, 6, u64::MAX)],
 ];
 
-// What is a lie in version 2 alone.
+// Changes of the image that are lies in version 2 alone.
 static SECOND_VERSION: [Lie; 13] = [
     // another version
     &[(0, 0, 1)],
@@ -144,7 +148,7 @@ static SECOND_VERSION: [Lie; 13] = [
     ],
 ];
 
-// What is no lie in version 2.
+// Changes of the image that are no lies in version 2.
 static REVISIONS: [Lie; 4] = [
     // revisions up to the last one given
     &[
@@ -163,6 +167,7 @@ static REVISIONS: [Lie; 4] = [
     &[(17, 7, 0), (18, 7, u64::MAX)],
 ];
 
+// Lies in the children and heights of nodes, of both versions.
 static TREES: [Lie; 25] = [
     // a leaf of height 0
     &[(1, 2, 0)],
@@ -252,6 +257,7 @@ static TREES: [Lie; 25] = [
     &[(1, 0, 0x2000_0000_0000_0001)],
 ];
 
+// Lies in the order of keys, and in which lines are a key's or a document's, of both versions.
 static PAIRS: [Lie; 12] = [
     // equal keys, of a node and its child
     &[(2, 1, 0x62)],
@@ -286,6 +292,7 @@ static PAIRS: [Lie; 12] = [
     &[(1, 5, 17)],
 ];
 
+// Lies in the bytes and lengths of keys and documents, of both versions.
 static TEXTS: [Lie; 18] = [
     // an empty key
     &[(1, 3, 0), (1, 4, 0)],
@@ -325,6 +332,7 @@ static TEXTS: [Lie; 18] = [
     &[(1, 3, 0)],
 ];
 
+// Lies in the lines that are given back, of both versions.
 static GIVEN_BACK: [Lie; 8] = [
     // no given-back line
     &[(0, 2, 0)],
@@ -344,7 +352,7 @@ static GIVEN_BACK: [Lie; 8] = [
     &[(18, 0, 19), (0, 4, 3)],
 ];
 
-// What is no lie.
+// Changes of the image that are no lies, of both versions.
 static TRUTHS: [Lie; 7] = [
     // nothing is changed
     &[],
@@ -362,7 +370,7 @@ static TRUTHS: [Lie; 7] = [
     &[(0, 1, 10), (10, 0, 4), (10, 2, 3), (4, 1, 7), (4, 2, 2)],
 ];
 
-// Tells a lie: false where there is no such word.
+// Changes words as a lie says, and returns `false` where there is no such line or word.
 fn tell(words: &mut [u64; 168], lie: Lie) -> bool {
     for (line, place, word) in lie {
         if *line >= 21 || *place >= 8 {
@@ -373,7 +381,7 @@ fn tell(words: &mut [u64; 168], lie: Lie) -> bool {
     true
 }
 
-// The words of the image of a version with its lie.
+// The words of the image in a version, with a lie in them.
 fn with_lie(version: u64, lie: Lie) -> Option<[u64; 168]> {
     let mut words = IMAGE;
     if version != 1 && !tell(&mut words, UPGRADE) {
@@ -385,7 +393,7 @@ fn with_lie(version: u64, lie: Lie) -> Option<[u64; 168]> {
     Some(words)
 }
 
-// Whether the first `count` words of the image of a version with its lie, or all of them, are lawful.
+// Whether the first `count` words of the image in a version, with a lie in them, are lawful. All are 168.
 fn is_lawful(
     alloc: Global,
     version: u64,
@@ -398,7 +406,7 @@ fn is_lawful(
     }
 }
 
-// The first lie of which the check says otherwise in a version.
+// The number of the first lie with which `lawful` does not return `truth` in a version.
 fn first_other_lie(
     alloc: Global,
     version: u64,
@@ -413,14 +421,16 @@ fn first_other_lie(
     Ok(None)
 }
 
-// How many words, short of the end, of whole lines or not, and with the words that are never looked at, and whether they are lawful.
+// How many words of the image there are, and whether they are lawful.
 const COUNTS: [(usize, bool); 11] = [
+    // fewer than the nineteen lines in use
     (0, false),
     (1, false),
     (7, false),
     (8, false),
     (144, false),
     (151, false),
+    // these lines, and with them one line or two more, whole or not
     (152, true),
     (153, false),
     (160, true),
@@ -428,7 +438,7 @@ const COUNTS: [(usize, bool); 11] = [
     (168, true),
 ];
 
-// The first number of words of the image of which the check says otherwise.
+// The number of the first row of which `lawful` does not return what the row says.
 fn first_other_count(
     alloc: Global,
     version: u64,
@@ -442,7 +452,7 @@ fn first_other_count(
     Ok(None)
 }
 
-// Whether what is a lie in both versions is found in one, and what is none is not.
+// Whether in a version each lie of both versions is found, and nothing that is no lie is taken for one.
 fn are_judged(alloc: Global, version: u64) -> Result<bool, AllocError> {
     Ok(
         first_other_lie(alloc, version, &HEADERS, false)?.is_none()
@@ -478,7 +488,7 @@ fn each_version_has_its_own_lies(rt: HostRuntime) -> Result<(), Fail> {
     Ok(())
 }
 
-// Words of a version that never was, with the revisions of version 1 or of version 2.
+// Numbers of versions that never were, and what gives the image this version, with the revisions of version 2 or, in the last row, of version 1.
 const NO_VERSION: [(u64, Lie); 4] = [
     (0, &[(0, 0, 0)]),
     (3, &[(0, 0, 3)]),
@@ -497,7 +507,7 @@ const NO_VERSION: [(u64, Lie); 4] = [
     ),
 ];
 
-// The first of them that is lawful.
+// The number of the first row whose words are lawful in its version.
 fn first_of_no_version(alloc: Global, rows: &[(u64, Lie)]) -> Result<Option<usize>, AllocError> {
     for (i, (version, lie)) in rows.iter().enumerate() {
         if is_lawful(alloc, *version, lie, 168)? != Some(false) {
@@ -513,7 +523,7 @@ fn there_is_no_other_version(rt: HostRuntime) -> Result<(), Fail> {
     Ok(())
 }
 
-// Whether words of version 1 become these words of version 2.
+// Whether words are lawful in version 1, and are upgraded to the words `wanted` of version 2.
 fn becomes(alloc: Global, words: &mut [u64], wanted: &[u64]) -> Result<bool, AllocError> {
     if !lawful(alloc, words, 1)? {
         return Ok(false);
@@ -522,7 +532,7 @@ fn becomes(alloc: Global, words: &mut [u64], wanted: &[u64]) -> Result<bool, All
     Ok(&*words == wanted)
 }
 
-// The first truth of which another than the header's words and the nodes' last words changes, or of these not all.
+// The number of the first truth whose words of version 1 are not upgraded to its words of version 2.
 fn first_other_upgrade(alloc: Global, truths: &[Lie]) -> Result<Option<usize>, AllocError> {
     for (i, truth) in truths.iter().enumerate() {
         let (Some(mut words), Some(wanted)) = (with_lie(1, truth), with_lie(2, truth)) else {
@@ -560,7 +570,7 @@ const LISTED: [(&[u8], &[u8]); 5] = [
     (b"e", &[b'x'; 57]),
 ];
 
-// Whether the words of a lie in version 2 hold these pairs, with these revisions.
+// Whether the image in version 2, with a lie in it, is lawful and has these pairs, with these revisions.
 fn lists(
     alloc: Global,
     lie: Lie,

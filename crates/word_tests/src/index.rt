@@ -18,7 +18,7 @@ use word_index::{
     read_document, remove, rev_at,
 };
 
-// A key of some bytes.
+// The key of these bytes, packed into words.
 fn key_of(bytes: &[u8]) -> Key
     requires { IsKey bytes.now }
     ensures packed { IsPacked 8 result.len result.words }
@@ -33,7 +33,7 @@ fn key_of(bytes: &[u8]) -> Key
     }
 }
 
-// Packs a document of some bytes, and gives their number.
+// Packs the bytes of a document into words, and returns how many bytes they are.
 fn pack_document(bytes: &[u8], words: &mut [u64; 128]) -> u64
     requires { IsDocument bytes.now }
     ensures packed { IsPacked 128 result words.new }
@@ -44,7 +44,7 @@ fn pack_document(bytes: &[u8], words: &mut [u64; 128]) -> u64
     bytes.len() as u64
 }
 
-// Puts a document at a key, in 64 lines.
+// Puts a document at a key of an index of 64 lines.
 pub fn put<M: Memory, L: Ledger>(
     memory: &mut M,
     key: &[u8],
@@ -67,7 +67,7 @@ pub fn put<M: Memory, L: Ledger>(
     Ok(done)
 }
 
-// Puts a document of `len` bytes that are all the same.
+// Puts a document of `len` bytes, each of which is `byte`, at a key.
 fn put_same<M: Memory, L: Ledger>(
     memory: &mut M,
     key: &[u8],
@@ -102,7 +102,7 @@ pub fn format<M: Memory>(memory: &mut M) -> Result<(), Halt>
     Ok(())
 }
 
-// Takes a key out.
+// Takes a key out, and returns whether it was there.
 pub fn take<M: Memory, L: Ledger>(
     memory: &mut M,
     key: &[u8],
@@ -120,7 +120,7 @@ pub fn take<M: Memory, L: Ledger>(
     Ok(there)
 }
 
-// The number of pairs, and the first byte of the least key above a key.
+// The number of pairs, and the first word of the least key above a key: of a key of one byte, this byte.
 fn look<M: Memory, L: Ledger>(
     memory: &mut M,
     key: &[u8],
@@ -138,7 +138,7 @@ fn look<M: Memory, L: Ledger>(
     Ok((pairs, above.map(|key| key.words[0])))
 }
 
-// The first byte of the document of a key.
+// The first word of the document of a key, or `None` where the key is missing.
 fn read<M: Memory, L: Ledger>(
     memory: &mut M,
     key: &[u8],
@@ -160,7 +160,7 @@ fn read<M: Memory, L: Ledger>(
     Ok(Some(words[0]))
 }
 
-// The revision of a key, and the last one that was given.
+// The revision of a key, or `None` where it is missing, and the last revision that was given to any key.
 fn revisions<M: Memory, L: Ledger>(
     memory: &mut M,
     key: &[u8],
@@ -182,57 +182,66 @@ fn revisions<M: Memory, L: Ledger>(
     Ok((Some(revision), last))
 }
 
-// A call, and what it answers.
+// A call on a key, and what it returns.
 enum Call {
-    // a document of this many bytes that are all the same is put
+    // a document is put: its byte, how often it stands there, and whether the key is new
     Put(u8, usize, Inserted),
+    // the key is taken out: whether it was there
     Take(bool),
-    // the number of pairs, and the first byte of the least key above
+    // the number of pairs, and the first word of the least key above
     Look(u64, Option<u64>),
+    // the first word of the document
     Read(Option<u64>),
     // the revision of the key, and the last one given
     Rev(Option<u64>, u64),
 }
 
-// Calls, each with its key. Nothing is there, and nothing is taken out. Two keys are put, one of them twice, and both are there.
-// Long documents fill the lines, and leave no room for a third key. A shorter document is put in place of a longer one. Two keys
-// are taken out, and one is left. Each put that is no NoRoom gives the next revision, also behind a key that was taken out.
+// Calls in turn on the empty index, each with its key. Each put but one without room gives the next revision. In what is returned, 98 is
+// the letter b, and 51 to 54 are the digits 3 to 6.
 static CALLS: [(u8, Call); 32] = [
+    // nothing is there, and nothing is taken out
     (b'a', Call::Look(0, None)),
     (b'a', Call::Rev(None, 0)),
     (b'a', Call::Take(false)),
+    // two keys are put
     (b'b', Call::Put(b'1', 1, Inserted::New)),
     (b'b', Call::Rev(Some(1), 1)),
     (b'a', Call::Put(b'2', 1, Inserted::New)),
     (b'a', Call::Rev(Some(2), 2)),
+    // one of them is put again, and both are there
     (b'b', Call::Put(b'3', 1, Inserted::Replaced)),
     (b'b', Call::Rev(Some(3), 3)),
     (b'a', Call::Rev(Some(2), 3)),
     (b'a', Call::Look(2, Some(98))),
     (b'b', Call::Look(2, None)),
     (b'b', Call::Read(Some(51))),
+    // three long documents fill the lines
     (b'a', Call::Put(52, 1024, Inserted::Replaced)),
     (b'a', Call::Rev(Some(4), 4)),
     (b'c', Call::Put(53, 1024, Inserted::New)),
     (b'b', Call::Put(54, 1024, Inserted::Replaced)),
+    // there is no room for a fourth key, and no revision is given
     (b'd', Call::Put(b'6', 1, Inserted::NoRoom)),
     (b'd', Call::Rev(None, 6)),
+    // a shorter document is put in place of a longer one
     (b'c', Call::Put(b'5', 1, Inserted::Replaced)),
     (b'c', Call::Rev(Some(7), 7)),
     (b'a', Call::Read(Some(0x34343434_34343434))),
     (b'c', Call::Read(Some(53))),
+    // two keys are taken out, and one is left
     (b'c', Call::Take(true)),
     (b'a', Call::Take(true)),
     (b'a', Call::Read(None)),
     (b'a', Call::Look(1, Some(98))),
     (b'b', Call::Rev(Some(6), 7)),
     (b'a', Call::Rev(None, 7)),
+    // a key that was taken out is put again, and has the next revision
     (b'c', Call::Put(b'7', 1, Inserted::New)),
     (b'c', Call::Rev(Some(8), 8)),
     (b'b', Call::Rev(Some(6), 8)),
 ];
 
-// Whether a call is answered so.
+// Whether a call on a key returns what the call says.
 fn is_answered<M: Memory, L: Ledger>(
     memory: &mut M,
     key: u8,
@@ -261,7 +270,7 @@ fn is_answered<M: Memory, L: Ledger>(
     }
 }
 
-// The first call, on the empty index, that is answered otherwise.
+// Makes the empty index and then the calls of rows, and returns the number of the first that does not return what it says.
 fn first_other_call<M: Memory, L: Ledger>(
     memory: &mut M,
     rows: &[(u8, Call)],
@@ -279,7 +288,7 @@ fn first_other_call<M: Memory, L: Ledger>(
     Ok(None)
 }
 
-// The same over a vector, with a counter of its own.
+// Makes `CALLS` on an index in a plain vector, and returns the number of the first that does not return what it says.
 fn over_a_vector<L: Ledger>(words: Vec<u64>, blank: Blank) -> Result<Option<usize>, Halt>
     requires long { length words.items ≡ 512 }
     requires name { blank.name ≡ L.name }
@@ -301,7 +310,7 @@ fn two_keys_over_a_vector(rt: HostRuntime) -> Result<(), Fail> {
     Ok(())
 }
 
-// Whether two writes give the greatest revision, where the last one given is the one before it.
+// Whether two writes both give the greatest revision, in an index in which the last one given is the one before it.
 fn greatest_is_given_again<M: Memory, L: Ledger>(
     memory: &mut M,
     visits: &mut Steps<L>,
@@ -317,7 +326,7 @@ fn greatest_is_given_again<M: Memory, L: Ledger>(
     Ok(first == (Some(u64::MAX), u64::MAX) && second == (Some(u64::MAX), u64::MAX))
 }
 
-// The same over the empty index of which this is the last revision.
+// Whether two writes both give the greatest revision, in words that are an index in which the last one given is the one before it.
 fn greatest_over_a_vector<L: Ledger>(
     alloc: Global,
     words: Vec<u64>,
@@ -340,8 +349,11 @@ fn greatest_over_a_vector<L: Ledger>(
 fn the_greatest_revision_is_given_again(rt: HostRuntime) -> Result<(), Fail> {
     let alloc = rt.alloc();
     let mut words = vec![in alloc; 0; 512]?;
+    // the version
     words[0] = 2;
+    // the end of the lines in use: the header alone
     words[3] = 1;
+    // the last revision that was given
     words[6] = u64::MAX - 1;
     holds(
         &rt,

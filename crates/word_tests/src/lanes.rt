@@ -6,9 +6,10 @@ use crate::holds::holds;
 use crate::plain;
 use line_lanes::{add_touched, differing, first_apart, touched};
 
-// The most lines that are tried, and some words behind the last of them.
+// The most lines in which words are compared or marked.
 const LINES: usize = 40;
 
+// The words of these lines, and three behind them, which belong to no line.
 const WORDS: usize = 8 * LINES + 3;
 
 // Whether one word of two lines differs in the second.
@@ -21,17 +22,17 @@ fn second_differs() -> bool {
     out == [false, true]
 }
 
-// Whether the addresses of both lines touch both, and none touches none.
+// Whether addresses of two lines mark both, and no address marks none.
 fn are_touched() -> bool {
     let mut both = [false; 2];
     touched(&[0, 7, 8], &mut both);
-    let mut none = [true; 2];
-    touched(&[], &mut none);
-    both == [true, true] && none == [false, false]
+    let mut untouched = [true; 2];
+    touched(&[], &mut untouched);
+    both == [true, true] && untouched == [false, false]
 }
 
-// Whether marks that were there stay.
-fn stay() -> bool {
+// Whether `add_touched` leaves a mark that was there before, and adds that of the line touched.
+fn marks_stay() -> bool {
     let mut out = [true, false, false];
     add_touched(&[8, 15], &mut out);
     out == [true, true, false]
@@ -50,7 +51,7 @@ fn are_apart() -> bool {
         && first_apart(&zeros, &other, 21) == 21
 }
 
-// Whether no line at all is marked in none.
+// Whether calls for no line at all leave an empty list of marks.
 fn is_empty() -> bool {
     let mut out = [true; 0];
     differing(&[1, 2], &[3], &mut out);
@@ -62,7 +63,7 @@ fn is_empty() -> bool {
 fn worked_rows(rt: HostRuntime) {
     holds(&rt, second_differs());
     holds(&rt, are_touched());
-    holds(&rt, stay());
+    holds(&rt, marks_stay());
     holds(&rt, is_empty());
     holds(&rt, are_apart());
 }
@@ -91,7 +92,7 @@ fn differ_as_plain(a: &[u64; WORDS], b: &[u64; WORDS], lines: usize) -> bool
     out == wanted
 }
 
-// The first number of lines in which the kernel and the plain program differ.
+// The first number of lines in which the kernel and the plain program mark other lines as different.
 fn first_other_differing(a: &[u64; WORDS], b: &[u64; WORDS]) -> Option<usize> {
     for lines in 0..LINES + 1 {
         if !differ_as_plain(a, b, lines) {
@@ -101,7 +102,7 @@ fn first_other_differing(a: &[u64; WORDS], b: &[u64; WORDS]) -> Option<usize> {
     None
 }
 
-// The first place at which one word that differs is marked otherwise.
+// The first place of a word that is the only one to differ, which the kernel and the plain program do not mark in the same way.
 fn first_other_place() -> Option<usize> {
     let words = scrambled(1);
     for at in 0..WORDS {
@@ -134,7 +135,7 @@ fn touch_as_plain(addresses: &[u64], lines: usize) -> bool
     out == wanted
 }
 
-// The first number of lines in which one address, at some place, is marked otherwise.
+// The first number of lines in which the kernel and the plain program do not mark one address, at some place, in the same way.
 fn first_other_address() -> Option<usize> {
     for lines in 1..LINES + 1 {
         for at in 0..8 * lines as u64 {
@@ -146,7 +147,7 @@ fn first_other_address() -> Option<usize> {
     None
 }
 
-// One address, over and over.
+// A list of 26 times the same address.
 fn repeated(address: u64, lines: usize) -> [u64; 26]
     requires { address < 8 * lines }
     ensures { All (λ address. address < 8 * lines) result }
@@ -154,7 +155,7 @@ fn repeated(address: u64, lines: usize) -> [u64; 26]
     [address; 26]
 }
 
-// The first number of lines in which the last address, up to 26 times, is marked otherwise.
+// The first number of lines in which the kernel and the plain program do not mark the last address, given up to 26 times, in the same way.
 fn first_other_repeated() -> Option<usize> {
     for lines in 1..LINES + 1 {
         let last = repeated(8 * lines as u64 - 1, lines);
@@ -167,7 +168,7 @@ fn first_other_repeated() -> Option<usize> {
     None
 }
 
-// Addresses of that many lines.
+// Addresses of words in `lines` lines, which look random.
 fn scattered(seed: u64, lines: usize) -> [u64; WORDS]
     requires few { lines ≤ 40 }
     requires some { 0 < lines }
@@ -180,7 +181,7 @@ fn scattered(seed: u64, lines: usize) -> [u64; WORDS]
     addresses
 }
 
-// The first number of lines in which scattered addresses, up to 59 of them, are marked otherwise.
+// The first number of lines in which the kernel and the plain program do not mark up to 59 scattered addresses in the same way.
 fn first_other_scattered() -> Option<usize> {
     for lines in 1..LINES + 1 {
         let addresses = scattered(lines as u64, lines);

@@ -9,8 +9,9 @@ use std::test::Fail;
 // Whether a node with no children, in words that are 5, is made a leaf.
 fn is_leaf(alloc: Global) -> Result<bool, AllocError> {
     let mut memory = VecMemory::of(vec![in alloc; 5; 16]?, None);
-    let none = Subtree { root: 0, height: 0 };
-    let made = set_node(&mut memory, 1, 1, none, none) == Ok(Subtree { root: 1, height: 1 });
+    let no_child = Subtree { root: 0, height: 0 };
+    let made = set_node(&mut memory, 1, 1, no_child, no_child)
+        == Ok(Subtree { root: 1, height: 1 });
     let high = height_of(&mut memory, 1) == Ok(1);
     let words = memory.into_words();
     Ok(made && high && words.len() == 16 && words[8..12] == [0, 0, 1, 5])

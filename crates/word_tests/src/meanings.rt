@@ -5,6 +5,7 @@ use crate::rows::{Row, are_answered, are_answered_with};
 use doc_model::{Pairs, integer_of, number_of};
 use std::test::Fail;
 
+// A text, the number of 64 bits that it is, and the number of 64 bits with a sign that it is, each if it is one.
 static NUMBERS: [(&str, Option<u64>, Option<i64>); 16] = [
     ("0", Some(0), Some(0)),
     ("-0", None, None),
@@ -43,7 +44,7 @@ fn numbers_are_read_in_one_form_alone(rt: HostRuntime) {
     holds(&rt, first_other_number(&NUMBERS).is_none());
 }
 
-// -21 is 18446744073709551595, and -1 is 18446744073709551615
+// Operations and replies in turn. As words, 18446744073709551595 is -21, and 18446744073709551615 is -1.
 static COMMANDS: [(Row, Row); 24] = [
     ((6, "", "", 0), (11, "", "", 0)),
     ((5, "", "", 0), (4, "", "", 0)),
@@ -74,7 +75,7 @@ static COMMANDS: [(Row, Row); 24] = [
     ((6, "", "", 0), (11, "", "", 2)),
 ];
 
-// 19 pairs of 3 lines each, and one of 6 lines: with it, 63 of the 63 lines that hold pairs
+// 19 pairs of three lines each, and k19 of six lines: with them, all 63 lines behind the header are in use.
 static FULL: [(Row, Row); 28] = [
     ((1, "k00", "0", 0), (1, "", "", 0)),
     ((1, "k01", "0", 0), (1, "", "", 0)),
@@ -104,10 +105,12 @@ static FULL: [(Row, Row); 28] = [
         ),
         (1, "", "", 0),
     ),
+    // there is no room for a new key
     ((1, "k20", "0", 0), (9, "", "", 0)),
     ((3, "k20", "", 1), (9, "", "", 0)),
     ((4, "k20", "", 0), (4, "", "", 0)),
     ((6, "", "", 0), (11, "", "", 20)),
+    // a shorter document of k19 makes room for it
     ((1, "k19", "0", 0), (2, "", "", 0)),
     ((1, "k20", "0", 0), (1, "", "", 0)),
     ((3, "k18", "", 7), (6, "", "", 7)),

@@ -7,7 +7,7 @@ use pmem_model::Medium;
 use std::alloc::{AllocError, Global};
 use std::test::Fail;
 
-// A medium of that many lines of zeros, up to 8.
+// A medium of `lines` lines of zeros, up to 8.
 fn lines_of_zeros(alloc: Global, lines: usize) -> Result<Medium, AllocError>
     requires { lines ≤ 8 }
     ensures words { IfOk result (λ m. length m.words ≡ 8 * lines) }
@@ -16,14 +16,16 @@ fn lines_of_zeros(alloc: Global, lines: usize) -> Result<Medium, AllocError>
     Medium::of(alloc, vec![in alloc; 0; 8 * lines]?)
 }
 
-// Choices, and what the first word of the image is by each.
+// Choices, and what each leaves of the first word where 5 was stored over 0 and is not durable: the old word, the new one, or another.
 const STORED: [(u64, u64); 3] = [(0, 0), (1, 5), (3, 3)];
 
+// Choices, and what each leaves of the first word where 5 was stored and is durable.
 const FENCED: [(u64, u64); 3] = [(0, 5), (1, 5), (3, 5)];
 
+// Choices, and what each leaves of the first word where 5 was written back and 6 was stored before the fence: the word 0 of the beginning, or 6.
 const STORED_AGAIN: [(u64, u64); 2] = [(0, 0), (1, 6)];
 
-// Whether the first word of the image by each choice is so.
+// Whether a medium of one line leaves by each choice the first word that the row says.
 fn leaves(medium: &Medium, rows: &[(u64, u64)]) -> bool
     requires { length medium.now.words ≡ 8 }
 {
@@ -88,6 +90,7 @@ struct Timed {
     settled: u64,
 }
 
+// A word of the plain list that is 0 and was never stored to.
 const FRESH: Timed = Timed {
     value: 0,
     durable: 0,
@@ -109,7 +112,7 @@ fn scrambled(seed: u64) -> u64 {
         .wrapping_add(1442695040888963407)
 }
 
-// Makes durable what was written back since it was stored to.
+// Makes durable each word of the plain list whose line was written back since the word was stored to.
 fn settle(plain: &mut Plain, time: u64) {
     for (i, word) in plain.words.iter_mut().enumerate() {
         if word.stored > word.settled && plain.backs[i / 8] > word.stored {
@@ -147,8 +150,8 @@ fn call(medium: &mut Medium, plain: &mut Plain, time: u64, number: u64)
     }
 }
 
-// What the plain list has of a word by a choice.
-fn left(word: &Timed, choice: u64, place: u64) -> u64 {
+// What a loss of power leaves of a word of the plain list by a choice. The place is counted from 1.
+fn word_left(word: &Timed, choice: u64, place: u64) -> u64 {
     if word.stored <= word.settled {
         return word.value;
     }
@@ -159,7 +162,7 @@ fn left(word: &Timed, choice: u64, place: u64) -> u64 {
     }
 }
 
-// Whether the medium holds what the plain list says, by a choice.
+// Whether the medium has the values and the dirty words that the plain list says, and leaves by a choice the words that it says.
 fn agrees_by(medium: &Medium, words: &[Timed; 64], choice: u64) -> bool
     requires { length medium.now.words ≡ 64 }
 {
@@ -167,7 +170,7 @@ fn agrees_by(medium: &Medium, words: &[Timed; 64], choice: u64) -> bool
     medium.image(choice, &mut image);
     for (i, word) in words.iter().enumerate() {
         let at = i as u64;
-        if image[i] != left(word, choice, at + 1)
+        if image[i] != word_left(word, choice, at + 1)
             || medium.is_dirty(at) != (word.stored > word.settled)
             || medium.load(at) != word.value
         {
@@ -177,7 +180,7 @@ fn agrees_by(medium: &Medium, words: &[Timed; 64], choice: u64) -> bool
     true
 }
 
-// Whether it does by each of four choices.
+// Whether the medium agrees with the plain list, by each of four choices.
 fn agrees(medium: &Medium, words: &[Timed; 64]) -> bool
     requires { length medium.now.words ≡ 64 }
 {
@@ -199,7 +202,7 @@ fn are_counted(medium: &Medium, stores: &[u64; 8]) -> bool
     true
 }
 
-// Whether the medium holds what the plain list says after each of two thousand calls.
+// Whether the medium agrees with the plain list after each of two thousand calls that look random.
 fn agree(medium: &mut Medium) -> bool
     requires words { length medium.old.words ≡ 64 }
     requires stores { length medium.old.stores ≡ 8 }

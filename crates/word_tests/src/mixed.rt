@@ -12,11 +12,14 @@ use doc_store::{DocStore, documents};
 use std::alloc::{AllocError, Global};
 use std::test::Fail;
 
+/// The letters of the digits 0 to 9.
 const DIGITS: [u8; 10] = *b"0123456789";
 
+/// The kinds of the commands, drawn from fourteen: four are a put (1), three a put on condition (7), two an addition (3), and one each a
+/// removal (2), a get (4), the next key (5), the count (6) and a revision (8).
 const KINDS: [u64; 14] = [1, 1, 1, 1, 2, 3, 3, 4, 5, 6, 7, 7, 7, 8];
 
-/// Numbers that look thrown.
+/// Numbers that look random.
 #[derive(Drop)]
 pub(crate) struct Numbers {
     state: u64,
@@ -39,6 +42,7 @@ impl Numbers {
     }
 }
 
+/// The last decimal digit of a number, as a letter.
 pub(crate) fn digit(n: u64) -> u8 {
     DIGITS[(n % 10) as usize]
 }
@@ -62,12 +66,14 @@ pub(crate) fn command(numbers: &mut Numbers) -> [u64; 144] {
     }
 }
 
+/// Whether two pairs have the same key, document and revision.
 fn same_pair(one: &Pair, other: &Pair) -> bool {
     one.key.as_slice() == other.key.as_slice()
         && one.doc.as_slice() == other.doc.as_slice()
         && one.revision == other.revision
 }
 
+/// Whether two lists have the same pairs in the same order.
 fn same_pairs(ones: &[Pair], others: &[Pair]) -> bool {
     for (one, other) in ones.iter().zip(others) {
         if !same_pair(one, other) {
@@ -86,7 +92,7 @@ fn is_reply(alloc: Global, words: &[u64; 144], want: &Reply) -> Result<bool, All
     }
 }
 
-/// Whether the plain program answers a command's words so.
+/// Whether the plain program's reply to a command's words is this one.
 fn is_meant(
     alloc: Global,
     pairs: &mut Pairs,
@@ -100,7 +106,7 @@ fn is_meant(
     }
 }
 
-/// Does one command in both, and says whether they answer the same.
+/// Does one command in the store and in the plain program, and returns whether they give the same reply.
 fn both<M: Memory>(
     alloc: Global,
     store: &DocStore,
@@ -121,7 +127,7 @@ fn both<M: Memory>(
     }
 }
 
-/// Whether both, empty before, give the same answers to `commands` commands.
+/// Whether the store and the plain program, both empty before, give the same replies to `commands` commands.
 fn are_same<M: Memory>(
     alloc: Global,
     store: &DocStore,
@@ -187,7 +193,7 @@ fn is_done(
     Ok(store.run(&mut mem, op).is_ok())
 }
 
-/// How many accesses a command takes in a lawful image: with fewer, it is refused.
+/// The fewest accesses, below 10,000, with which a command is done in a lawful image; 0 also where there is no such number.
 pub(crate) fn accesses(
     alloc: Global,
     store: &DocStore,
@@ -205,8 +211,8 @@ pub(crate) fn accesses(
 /// Whether a put takes more than 20 accesses in an image, and words of no operation none.
 fn are_refused(alloc: Global, store: &DocStore, image: &[u64]) -> Result<bool, AllocError> {
     let put = accesses(alloc, store, image, &words_of((1, "new", "1", 0)))?;
-    let none = accesses(alloc, store, image, &words_of((7, "", "", 0)))?;
-    Ok(put > 20 && none == 0)
+    let no_operation = accesses(alloc, store, image, &words_of((7, "", "", 0)))?;
+    Ok(put > 20 && no_operation == 0)
 }
 
 #[test]

@@ -10,10 +10,10 @@ use doc_model::{
 use std::alloc::{AllocError, Global};
 use std::test::Fail;
 
-/// The kind, the key, the document and the amount of an operation. Kind 0 is none.
+/// The kind, the key, the document and the amount of an operation. Kind 0 is of words that are no operation's.
 type Parts<'a> = (u64, &'a [u8], &'a [u8], i64);
 
-/// The words of a row, those that are put at their places, and the operation.
+/// The parts of words, the words that are then changed, by their places, and the parts of the operation that the words are then.
 type Changed = (Row, &'static [(usize, u64)], Parts<'static>);
 
 /// The kind of an operation's words.
@@ -70,7 +70,7 @@ fn has_parts(op: &Op, want: &Parts<'_>) -> bool {
         && amount_of(op) == want.3
 }
 
-/// Whether words are read so, and are the words of what is read.
+/// Whether words are read as an operation of these parts, and are the words of this operation again; with kind 0, whether they are no operation's.
 fn is_read(alloc: Global, words: &[u64; 144], want: &Parts<'_>) -> Result<bool, AllocError> {
     match op_of(alloc, words) {
         Ok(op) => Ok(is_op(words) && op_words(&op) == *words && has_parts(&op, want)),
@@ -79,7 +79,9 @@ fn is_read(alloc: Global, words: &[u64; 144], want: &Parts<'_>) -> Result<bool, 
     }
 }
 
+// Words, some of them changed, and the operation that they are then. Kind 0 is of words that are no operation's.
 static OPERATIONS: [Changed; 52] = [
+    // operations of each kind
     ((1, "a", " ", 0), &[], (1, b"a", b" ", 0)),
     ((1, "!~", "\u{FF}", 0), &[], (1, b"!~", b"\xC3\xBF", 0)),
     ((2, "a", "", 0), &[], (2, b"a", b"", 0)),
@@ -133,9 +135,11 @@ static OPERATIONS: [Changed; 52] = [
     ),
     ((0, "", "", 0), &[], (0, b"", b"", 0)),
     // words of a put, some of them changed
+    // the kind
     ((1, "a", "1", 0), &[(0, 0)], (0, b"", b"", 0)),
     ((1, "a", "1", 0), &[(0, 9)], (0, b"", b"", 0)),
     ((1, "a", "1", 0), &[(0, 2)], (0, b"", b"", 0)),
+    // the length of the key
     ((1, "a", "1", 0), &[(1, 0)], (0, b"", b"", 0)),
     ((1, "a", "1", 0), &[(1, 0), (8, 0)], (0, b"", b"", 0)),
     ((1, "a", "1", 0), &[(1, 2)], (0, b"", b"", 0)),
@@ -145,23 +149,28 @@ static OPERATIONS: [Changed; 52] = [
         &[(1, 18446744073709551615), (3, 0)],
         (0, b"", b"", 0),
     ),
+    // the length of the document
     ((1, "a", "1", 0), &[(2, 0), (16, 0)], (0, b"", b"", 0)),
     ((1, "a", "1", 0), &[(2, 2)], (0, b"", b"", 0)),
     ((1, "a", "1", 0), &[(2, 1025)], (0, b"", b"", 0)),
+    // words that a put does not use
     ((1, "a", "1", 0), &[(3, 1)], (0, b"", b"", 0)),
     ((1, "a", "1", 0), &[(4, 1)], (0, b"", b"", 0)),
     ((1, "a", "1", 0), &[(7, 1)], (0, b"", b"", 0)),
+    // the key: a byte behind its end, a space, a byte above the visible ones, and a word behind its end
     ((1, "a", "1", 0), &[(8, 353)], (0, b"", b"", 0)),
     ((1, "a", "1", 0), &[(8, 32)], (0, b"", b"", 0)),
     ((1, "a", "1", 0), &[(8, 127)], (0, b"", b"", 0)),
     ((1, "a", "1", 0), &[(15, 1)], (0, b"", b"", 0)),
+    // the document: a control character, and a word behind its end
     ((1, "a", "1", 0), &[(16, 31)], (0, b"", b"", 0)),
     ((1, "a", "1", 0), &[(143, 1)], (0, b"", b"", 0)),
+    // another key, and another document or length, which are a put again
     ((1, "a", "1", 0), &[(8, 33), (16, 32)], (1, b"!", b" ", 0)),
     ((1, "a", "1", 0), &[(1, 2), (8, 25185)], (1, b"ab", b"1", 0)),
 ];
 
-/// Words of which some are changed.
+/// Words of which some are changed, by their places.
 fn changed(words: [u64; 144], changes: &[(usize, u64)]) -> [u64; 144] {
     let mut words = words;
     for (at, word) in changes {
@@ -172,7 +181,7 @@ fn changed(words: [u64; 144], changes: &[(usize, u64)]) -> [u64; 144] {
     words
 }
 
-/// The first row that is read otherwise.
+/// The number of the first row whose words are not read as the row says.
 fn first_other(alloc: Global, rows: &[Changed]) -> Result<Option<usize>, AllocError> {
     for (i, (row, changes, want)) in rows.iter().enumerate() {
         if !is_read(alloc, &changed(words_of(*row), changes), want)? {
@@ -182,7 +191,7 @@ fn first_other(alloc: Global, rows: &[Changed]) -> Result<Option<usize>, AllocEr
     Ok(None)
 }
 
-// the lengths of the key and of the document, and whether a put has them
+// The lengths of a key and of a document, and whether a put may have them.
 static LENGTHS: [(usize, usize, bool); 9] = [
     (1, 1, true),
     (7, 56, true),
@@ -195,7 +204,7 @@ static LENGTHS: [(usize, usize, bool); 9] = [
     (1, 0, false),
 ];
 
-/// The first row of lengths that is read otherwise.
+/// The number of the first row of lengths of which a put's words are not read as the row says.
 fn first_other_length(
     alloc: Global,
     rows: &[(usize, usize, bool)],
@@ -219,7 +228,7 @@ fn words_are_read_as_operations(rt: HostRuntime) -> Result<(), Fail> {
     Ok(())
 }
 
-// words, whether a reply has them, and its sum if it is one
+// The parts of words, whether a reply has them, and the sum of this reply or 0.
 static REPLIES: [(Row, bool, i64); 29] = [
     ((1, "", "", 0), true, 0),
     ((2, "", "", 0), true, 0),
@@ -239,6 +248,7 @@ static REPLIES: [(Row, bool, i64); 29] = [
     ((13, "", "", 0), true, 0),
     ((14, "", "", 18446744073709551615), true, 0),
     ((15, "", "", 0), false, 0),
+    // parts that a reply of this kind does not have, or that it misses
     ((12, "a", "", 7), false, 0),
     ((13, "", "1", 7), false, 0),
     ((14, "a", "", 7), false, 0),
@@ -260,7 +270,7 @@ fn sum_of(reply: &Reply) -> i64 {
     }
 }
 
-/// Whether a row's words are read so, and are the words of what is read.
+/// Whether a row's words are read as a reply of its parts, and are the words of this reply again, or are no reply's where the row says so.
 fn is_reply_read(alloc: Global, row: &(Row, bool, i64)) -> Result<bool, AllocError> {
     let words = words_of(row.0);
     match reply_of(alloc, &words) {
@@ -275,7 +285,7 @@ fn is_reply_read(alloc: Global, row: &(Row, bool, i64)) -> Result<bool, AllocErr
     }
 }
 
-/// The first row that is read as another reply.
+/// The number of the first row whose words are not read as the reply that it says.
 fn first_other_reply(
     alloc: Global,
     rows: &[(Row, bool, i64)],
@@ -298,8 +308,10 @@ fn are_packed(key_words: &[(usize, u64)], document_words: &[(usize, u64)]) -> bo
         && packed_document_reply(9, &document) == changed([0; 144], document_words)
 }
 
+// The words that are not 0 of the reply of the key `key`: the kind, its length and its bytes.
 static KEY_WORDS: [(usize, u64); 3] = [(0, 10), (1, 3), (8, 0x0079_656b)];
 
+// The words that are not 0 of the reply of the document `document!`: the kind, its length and its bytes.
 static DOCUMENT_WORDS: [(usize, u64); 4] = [
     (0, 5),
     (2, 9),

@@ -12,40 +12,48 @@ use doc_store::{DocStore, documents};
 use std::alloc::{AllocError, Global};
 use std::test::Fail;
 
+/// The keys, in rising order.
 const KEYS: [&str; 7] = ["a", "b", "c", "d", "e", "f", "g"];
 
+/// The places of the keys in rising order.
 const RISING: [usize; 7] = [0, 1, 2, 3, 4, 5, 6];
 
+/// The kind of a put.
 const PUT: u64 = 1;
 
+/// The kind of a removal.
 const DEL: u64 = 2;
 
+/// The kind of the count of pairs.
 const COUNT: u64 = 6;
 
+/// The kind of a reply that a key is new.
 const NEW: u64 = 1;
 
+/// The kind of a reply that a key is deleted.
 const DELETED: u64 = 3;
 
+/// The kind of a reply that is a number.
 const NUMBER: u64 = 11;
 
-/// Moves what is behind a place forward by one place.
-fn close(left: &mut [usize; 7], at: usize) {
+/// Takes a place out of a list: what is behind it moves forward by one place.
+fn take_out(rest: &mut [usize; 7], at: usize) {
     for i in at..6 {
-        left[i] = left[i + 1];
+        rest[i] = rest[i + 1];
     }
 }
 
 /// The n-th of the 5,040 orders of seven numbers.
 fn order_of(n: u64) -> [usize; 7] {
-    let mut left = RISING;
+    let mut rest = RISING;
     let mut order = [0; 7];
     let mut n = n;
     for i in 0..7 {
         let choices = 7 - i as u64;
         let at = (n % choices) as usize;
         n /= choices;
-        order[i] = left[at];
-        close(&mut left, at);
+        order[i] = rest[at];
+        take_out(&mut rest, at);
     }
     order
 }
@@ -58,8 +66,8 @@ fn is_pair(pair: Option<&Pair>, key: &[u8]) -> bool {
     }
 }
 
-/// Whether these are the pairs of these keys, each with itself as its document.
-fn are_those(pairs: &[Pair], there: &[bool; 7]) -> bool {
+/// Whether pairs are those of the keys that are there, in rising order, each with itself as its document.
+fn are_pairs(pairs: &[Pair], there: &[bool; 7]) -> bool {
     let mut found = 0usize;
     for (key, there) in KEYS.iter().zip(there) {
         if *there {
@@ -72,8 +80,8 @@ fn are_those(pairs: &[Pair], there: &[bool; 7]) -> bool {
     found == pairs.len()
 }
 
-/// Whether an image is lawful and holds these of the keys.
-fn holds_those(
+/// Whether an image is lawful and holds exactly the keys that are there.
+fn holds_keys(
     alloc: Global,
     store: &DocStore,
     image: &[u64],
@@ -84,11 +92,11 @@ fn holds_those(
     if !store.check(alloc, image)? {
         return Ok(false);
     }
-    Ok(are_those(&documents(alloc, image)?, there))
+    Ok(are_pairs(&documents(alloc, image)?, there))
 }
 
-/// Does a command in an image: `false` where the image before it is not lawful or does not hold these of the keys, or
-/// another reply comes.
+/// Does a command in an image. It returns `false` where the image before is not lawful or does not hold exactly the keys that are there, or the
+/// reply is of another kind.
 fn done(
     alloc: Global,
     store: &DocStore,
@@ -97,7 +105,7 @@ fn done(
     op: &[u64; 144],
     reply: u64,
 ) -> Result<bool, AllocError> {
-    if !holds_those(alloc, store, image, there)? {
+    if !holds_keys(alloc, store, image, there)? {
         return Ok(false);
     }
     let mut mem = VecMemory::of(Vec::from_slice(alloc, image)?, None);
@@ -107,7 +115,7 @@ fn done(
     }
 }
 
-/// Copies words that are an image's.
+/// Copies 512 words into an image, and returns `false` where there are more or fewer.
 fn copied(words: &[u64], image: &mut [u64; 512]) -> bool {
     if words.len() != 512 {
         return false;
@@ -122,7 +130,7 @@ fn on_key(kind: u64, at: usize) -> [u64; 144] {
     laid_out(kind, key, if kind == PUT { key } else { b"" }, 0)
 }
 
-/// Puts all keys in, or takes them out, in an order: `false` where an image is wrong on the way.
+/// Puts all keys in, or takes them out, in an order. It returns `false` where an image or a reply is wrong on the way.
 fn all_done(
     alloc: Global,
     store: &DocStore,
@@ -149,7 +157,7 @@ fn all_done(
     )
 }
 
-/// The opening image of 64 lines.
+/// Makes the words the opening image of 64 lines, and returns whether that was done.
 fn empty(alloc: Global, image: &mut [u64; 512]) -> Result<bool, AllocError> {
     let mut mem = memory(alloc, 64)?;
     match opened(&DocStore::of(64), &mut mem) {
@@ -203,7 +211,7 @@ fn seven_keys_in_every_order(rt: HostRuntime) -> Result<(), Fail> {
     Ok(())
 }
 
-/// How many accesses the removal of the middle key of seven takes: in a balanced tree it stands over two others.
+/// How many accesses the removal of the middle one of seven keys takes, which in a balanced tree has a key at each side below it.
 fn removal(alloc: Global) -> Result<u64, AllocError> {
     let store = DocStore::of(64);
     let mut image = [0; 512];
@@ -228,7 +236,8 @@ fn root_of(image: &[u64]) -> Option<(u64, u64)> {
     Some((key, height))
 }
 
-// Balanced by hand: a; a, b; b over a, c; and on, as an AVL tree has it.
+// The key at the root, by its byte, and the height of the root after each of the keys a to g is put, worked by hand: first a (97), from the
+// third key on b (98), and from the sixth on d (100).
 static ROOTS: [(u64, u64); 7] = [
     (97, 1),
     (97, 2),
@@ -239,7 +248,7 @@ static ROOTS: [(u64, u64); 7] = [
     (100, 3),
 ];
 
-/// Whether each root stands after its key is put in, in rising order.
+/// Whether the root of the image is as it should be after each key is put in, in rising order.
 fn have_roots(alloc: Global, roots: &[(u64, u64); 7]) -> Result<bool, AllocError> {
     let store = DocStore::of(64);
     let mut image = [0; 512];

@@ -17,6 +17,7 @@ fn is_different(a: &[u64], b: &[u64], line: usize) -> bool
     false
 }
 
+// Marks the lines in which two lists of words differ.
 pub(crate) fn differing(a: &[u64], b: &[u64], out: &mut [bool])
     requires a_lines { 8 * length out.old ≤ length a.now }
     requires b_lines { 8 * length out.old ≤ length b.now }
@@ -39,6 +40,7 @@ fn is_touched(addresses: &[u64], line: usize) -> bool
     false
 }
 
+// Marks the lines in which some address lies.
 pub(crate) fn touched(addresses: &[u64], out: &mut [bool])
     ensures { MarksLines (TouchesLine addresses.now) out.new }
 {

@@ -11,7 +11,9 @@ use doc_store::{DocStore, documents};
 use std::alloc::{AllocError, Global};
 use std::test::Fail;
 
-// Four lines: the header, the node of one pair, the key 'a' and the document '1'.
+// Four lines: the header, the node of one pair, the key 'a' and the document '1'. The header has the version, the root, the first line given
+// back, the end, how many lines are given back, how many pairs there are, and the last revision; the node has its two children, its height, the
+// line and the length of its key and of its document, and its revision.
 const FIRST_VERSION: [u64; 32] = [
     1, 1, 0, 4, 0, 1, 0, 0, //
     0, 0, 1, 2, 1, 3, 1, 0, //
@@ -19,7 +21,7 @@ const FIRST_VERSION: [u64; 32] = [
     0, 49, 0, 0, 0, 0, 0, 0, //
 ];
 
-// The same in version 2, with the revision that the pair gets.
+// What `FIRST_VERSION` is in version 2: revision 1 is that of the pair, and the last one in the header.
 const SECOND_VERSION: [u64; 32] = [
     2, 1, 0, 4, 0, 1, 1, 0, //
     0, 0, 1, 2, 1, 3, 1, 1, //
@@ -78,7 +80,7 @@ fn an_image_of_version_1_is_upgraded(rt: HostRuntime) -> Result<(), Fail> {
     Ok(())
 }
 
-/// Whether a row's operation is answered as the row says.
+/// Whether the store answers the operation of a row by its reply.
 fn is_answered<M: Memory>(store: &DocStore, mem: &mut M, row: &(Row, Row)) -> bool
     requires size { M.size mem.old ≡ 8 * store.now.lines }
     requires writable { IsTrue (M.writable mem.old) }
@@ -93,7 +95,7 @@ fn is_answered<M: Memory>(store: &DocStore, mem: &mut M, row: &(Row, Row)) -> bo
     }
 }
 
-/// Whether each row's operation is answered as the row says.
+/// Whether the store answers the operations of rows in turn by their replies.
 fn are_answered_in<M: Memory>(store: &DocStore, mem: &mut M, rows: &[(Row, Row)]) -> bool
     requires size { M.size mem.old ≡ 8 * store.now.lines }
     requires writable { IsTrue (M.writable mem.old) }
@@ -107,7 +109,7 @@ fn are_answered_in<M: Memory>(store: &DocStore, mem: &mut M, rows: &[(Row, Row)]
     true
 }
 
-// The greatest number of 64 bits is given again.
+// Operations and replies from revision 2^64 - 1 as the last one on: each write gives this revision again, as there is none above.
 const GREATEST: [(Row, Row); 7] = [
     ((8, "a", "", 0), (14, "", "", 1)),
     ((7, "a", "2", 1), (12, "", "", 18446744073709551615)),
@@ -121,7 +123,7 @@ const GREATEST: [(Row, Row); 7] = [
     ((7, "a", "4", 0), (12, "", "", 18446744073709551615)),
 ];
 
-/// Whether each row's operation is answered as the row says in an image whose last revision is this one.
+/// Whether `SECOND_VERSION` with `last` as its last revision is an image, and the store answers the operations of rows in it by their replies.
 fn are_answered_after(alloc: Global, last: u64, rows: &[(Row, Row)]) -> Result<bool, AllocError> {
     let store = DocStore::of(4);
     let mut words = SECOND_VERSION;

@@ -11,7 +11,8 @@ use doc_store::DocStore;
 use std::alloc::{AllocError, Global};
 use std::test::Fail;
 
-/// The parts of words, as the rows give them: the kind, the key, the document and the number.
+/// The parts of words, as the rows give them: the kind, the key, the document and the number. An operation's kinds are 1 put, 2 removal,
+/// 3 addition, 4 get, 5 next key, 6 count, 7 put on condition of a revision, and 8 revision; `kind_of` has a reply's. Kind 0 is none.
 pub(crate) type Row = (u64, &'static str, &'static str, u64);
 
 /// A key or a document of one letter.
@@ -26,7 +27,7 @@ fn lay(words: &mut [u64], from: usize, bytes: &[u8]) {
     }
 }
 
-/// The words of these parts.
+/// The words of an operation or a reply of these parts.
 pub(crate) fn laid_out(kind: u64, key: &[u8], document: &[u8], number: u64) -> [u64; 144] {
     let mut words = [0; 144];
     words[0] = kind;
@@ -38,7 +39,7 @@ pub(crate) fn laid_out(kind: u64, key: &[u8], document: &[u8], number: u64) -> [
     words
 }
 
-/// The words of a row.
+/// The words of an operation or a reply, by its parts.
 pub(crate) fn words_of(row: Row) -> [u64; 144] {
     laid_out(row.0, row.1.as_bytes(), row.2.as_bytes(), row.3)
 }
@@ -107,7 +108,7 @@ pub(crate) fn same_reply(one: &Reply, other: &Reply) -> bool {
         && number_of(one) == number_of(other)
 }
 
-/// What the plain program answers to words in `lines` lines, and nothing where they are no operation's.
+/// The plain program's reply to the operation of these words in `lines` lines, or `None` where they are no operation's.
 pub(crate) fn meant(
     alloc: Global,
     pairs: &mut Pairs,
@@ -121,7 +122,7 @@ pub(crate) fn meant(
     }
 }
 
-/// Whether the plain program answers an operation as wanted. No operation is answered by zeros.
+/// Whether the plain program's reply to an operation's words has these parts. Words of no operation have no reply, and the row has kind 0.
 fn is_meant(
     alloc: Global,
     pairs: &mut Pairs,
@@ -135,7 +136,7 @@ fn is_meant(
     })
 }
 
-/// The reply to an operation's words.
+/// The words of the store's reply to an operation's words.
 pub(crate) fn asked<M: Memory>(
     store: &DocStore,
     mem: &mut M,
@@ -162,7 +163,7 @@ pub(crate) fn opened<M: Memory>(store: &DocStore, mem: &mut M) -> Result<(), Hal
     store.format(mem)
 }
 
-/// Whether the store and the plain program answer a row's operation as the row says.
+/// Whether the store and the plain program both answer the operation of a row by its reply.
 fn is_answered<M: Memory>(
     alloc: Global,
     store: &DocStore,
@@ -186,7 +187,7 @@ fn is_answered<M: Memory>(
     }
 }
 
-/// Whether the store, empty before, and the plain program answer each row's operation as the row says.
+/// Whether the store, which is made empty before, and the plain program both answer the operations of rows in turn by their replies.
 fn both_answer<M: Memory>(
     alloc: Global,
     store: &DocStore,
@@ -208,7 +209,7 @@ fn both_answer<M: Memory>(
     Ok(true)
 }
 
-/// A memory of `lines` lines of words that say nothing.
+/// A memory of `lines` lines, each word of which is 2^64 - 1, without a limit of accesses.
 pub(crate) fn memory(alloc: Global, lines: u64) -> Result<VecMemory, AllocError>
     requires { lines ≤ 2 ^ 14 }
     ensures { IfOk result (λ m. length m.words.items ≡ 8 * lines) }
@@ -217,7 +218,8 @@ pub(crate) fn memory(alloc: Global, lines: u64) -> Result<VecMemory, AllocError>
     Ok(VecMemory::of(words, None))
 }
 
-/// Whether each row's operation is answered as the row says in `lines` lines, by the plain program from these pairs on.
+/// Whether the store, empty at first, in `lines` lines, and the plain program, from these pairs on, both answer the operations of rows in turn by
+/// their replies.
 pub(crate) fn are_answered_with(
     alloc: Global,
     lines: u64,
@@ -231,7 +233,7 @@ pub(crate) fn are_answered_with(
     both_answer(alloc, &DocStore::of(lines), &mut mem, pairs, rows)
 }
 
-/// Whether each row's operation is answered as the row says in `lines` lines.
+/// Whether the store in `lines` lines and the plain program, both empty at first, answer the operations of rows in turn by their replies.
 pub(crate) fn are_answered(
     alloc: Global,
     lines: u64,
@@ -243,7 +245,7 @@ pub(crate) fn are_answered(
     are_answered_with(alloc, lines, &mut Pairs::new(alloc), rows)
 }
 
-// 63 lines, all in use
+// 19 pairs of three lines each, and k19 of six lines: with them, all 63 lines behind the header are in use.
 static FULL: [(Row, Row); 27] = [
     ((1, "k00", "0", 0), (1, "", "", 0)),
     ((1, "k01", "0", 0), (1, "", "", 0)),
@@ -273,8 +275,10 @@ static FULL: [(Row, Row); 27] = [
         ),
         (1, "", "", 0),
     ),
+    // there is no room for a new key
     ((1, "k20", "0", 0), (9, "", "", 0)),
     ((3, "k20", "", 1), (9, "", "", 0)),
+    // a shorter document of k19 makes room for it
     ((1, "k19", "0", 0), (2, "", "", 0)),
     ((1, "k20", "0", 0), (1, "", "", 0)),
     ((6, "", "", 0), (11, "", "", 21)),
@@ -282,7 +286,8 @@ static FULL: [(Row, Row); 27] = [
     ((4, "k20", "", 0), (5, "", "0", 0)),
 ];
 
-// a sum at the type's end, and below 0
+// A sum at the end of 64 bits with a sign, and sums below 0. As words, 9223372036854775807 is the greatest number and 9223372036854775808 the
+// least, 18446744073709551615 is -1, and 18446744073709551611 is -5.
 static SUMS: [(Row, Row); 7] = [
     (
         (3, "k", "", 9223372036854775807),
@@ -302,7 +307,7 @@ static SUMS: [(Row, Row); 7] = [
     ((4, "n", "", 0), (5, "", "-5", 0)),
 ];
 
-// a document that is no number, and one that is gone
+// A document that is no number, so that nothing is added to it, and a key that is taken out and is gone then.
 static NO_NUMBERS: [(Row, Row); 6] = [
     ((1, "a", "{\"a\":[],\"b\":1}", 0), (1, "", "", 0)),
     ((4, "a", "", 0), (5, "", "{\"a\":[],\"b\":1}", 0)),
@@ -312,8 +317,9 @@ static NO_NUMBERS: [(Row, Row); 6] = [
     ((4, "a", "", 0), (4, "", "", 0)),
 ];
 
-// keys at the limit, and words that are no operation's
+// Words at the limits of an operation, and words that are no operation's, which zeros answer.
 static AT_THE_LIMITS: [(Row, Row); 12] = [
+    // a key of 64 bytes, and one of 65
     (
         (
             1,
@@ -350,17 +356,20 @@ static AT_THE_LIMITS: [(Row, Row); 12] = [
         ),
         (0, "", "", 0),
     ),
+    // a key with a space, and a put without a document
     ((1, "a b", "1", 0), (0, "", "", 0)),
     ((1, "a", "", 0), (0, "", "", 0)),
+    // kinds that need a key without one, kinds that there are not, and a count with a number
     ((7, "", "", 0), (0, "", "", 0)),
     ((8, "", "", 0), (0, "", "", 0)),
     ((9, "", "", 0), (0, "", "", 0)),
     ((0, "", "", 0), (0, "", "", 0)),
     ((6, "", "", 1), (0, "", "", 0)),
+    // one pair was put
     ((6, "", "", 0), (11, "", "", 1)),
 ];
 
-// a document of 56 bytes takes one line, and one of 57 bytes takes two
+// Seven lines, of which two pairs take six: a document of 56 bytes takes one line, and one of 57 bytes takes two, for which there is no room.
 static SEVEN_LINES: [(Row, Row); 8] = [
     ((5, "", "", 0), (4, "", "", 0)),
     ((1, "b", "1", 0), (1, "", "", 0)),
@@ -388,7 +397,7 @@ static SEVEN_LINES: [(Row, Row); 8] = [
     ((6, "", "", 0), (11, "", "", 2)),
 ];
 
-// the least key above, and the number of pairs
+// Two keys: the least one above each key, if there is one, and the number of pairs.
 static LEAST_KEYS: [(Row, Row); 7] = [
     ((1, "a", "1", 0), (1, "", "", 0)),
     ((1, "c", "2", 0), (1, "", "", 0)),
@@ -399,7 +408,8 @@ static LEAST_KEYS: [(Row, Row); 7] = [
     ((6, "", "", 0), (11, "", "", 2)),
 ];
 
-// each write of a key has the next revision, and a put on condition of another revision is stale
+// Each write of a key has the next revision. A put on condition of another revision is stale, which names the key's revision, or 0 where it is
+// missing.
 static REVISIONS: [(Row, Row); 12] = [
     ((7, "a", "1", 0), (12, "", "", 1)),
     ((7, "a", "2", 0), (13, "", "", 1)),
@@ -415,7 +425,7 @@ static REVISIONS: [(Row, Row); 12] = [
     ((6, "", "", 0), (11, "", "", 1)),
 ];
 
-// what is stale and has no room is stale, and what has no room is given no revision
+// Seven lines, filled by a and b. A put that is stale and has no room is answered stale, and a put without room gives no revision.
 static STALE_WITHOUT_ROOM: [(Row, Row); 11] = [
     ((1, "a", "1", 0), (1, "", "", 0)),
     ((1, "b", "1", 0), (1, "", "", 0)),
@@ -446,6 +456,7 @@ static STALE_WITHOUT_ROOM: [(Row, Row); 11] = [
     ((8, "a", "", 0), (14, "", "", 4)),
 ];
 
+// Operations, and whether they are readings. Words of no operation, as a get without a key, are none.
 static READINGS: [(Row, bool); 11] = [
     ((1, "a", "1", 0), false),
     ((2, "a", "", 0), false),
@@ -474,7 +485,7 @@ fn commands_have_their_replies(rt: HostRuntime) -> Result<(), Fail> {
     Ok(())
 }
 
-/// Whether each operation is taken for a reading exactly where its row says so.
+/// Whether `reads` returns for each operation what its row says.
 fn are_recognized(store: &DocStore, rows: &[(Row, bool)]) -> bool {
     for (ask, want) in rows {
         if store.reads(&words_of(*ask)) != *want {

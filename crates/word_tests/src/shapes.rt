@@ -17,18 +17,22 @@ const TREE: [u64; 32] = [
 
 // A root, a number of nodes, and whether they are a tree.
 const SHAPES: [(u64, u32, bool); 9] = [
+    // no root
     (0, 0, true),
     (0, 1, false),
+    // a leaf
     (1, 1, true),
+    // the root of a tree of three nodes
     (2, 0, false),
     (2, 2, false),
     (2, 3, true),
     (2, 4, false),
+    // lines that there are not
     (4, 1, false),
     (u64::MAX, 1, false),
 ];
 
-// The first row of which the check of these words says otherwise.
+// The number of the first row of which `is_balanced` does not return what the row says.
 fn first_other_shape(words: &[u64], rows: &[(u64, u32, bool)]) -> Option<usize>
     requires { IsPartLength (length words.now) }
 {

@@ -24,13 +24,13 @@ struct Stores {
 }
 
 /// No stores.
-const NONE: Stores = Stores {
+const NO_STORES: Stores = Stores {
     all: 0,
     again: 0,
     needless: 0,
 };
 
-/// Adds the stores of one operation, and begins to count anew.
+/// Adds the stores of one operation to those so far, and sets the counts of all words back to 0.
 fn counted(words: &mut [WordStores], so_far: Stores) -> Stores {
     let mut sum = so_far;
     for word in words.iter_mut() {
@@ -61,7 +61,7 @@ fn stores_of<M: Memory>(
 {
     opened(store, mem)?;
     let mut numbers = Numbers::of(7);
-    let mut sum = NONE;
+    let mut sum = NO_STORES;
     counted(&mut mem.words, sum);
     for _ in 0..commands {
         asked(store, mem, &command(&mut numbers))?;
@@ -82,7 +82,7 @@ fn store_once(alloc: Global, lines: u64, commands: u64, more_than: u64) -> Resul
     })
 }
 
-// 256 lines are soon full, and 512 are not yet.
+// With 256 lines the store is full before the commands end, and with 512 lines it is not.
 #[test]
 fn an_operation_stores_each_word_that_changes_once(rt: HostRuntime) -> Result<(), Fail> {
     holds(&rt, store_once(rt.alloc(), 256, 1000, 1500)?);
@@ -90,27 +90,27 @@ fn an_operation_stores_each_word_that_changes_once(rt: HostRuntime) -> Result<()
     Ok(())
 }
 
-/// The numbers of pairs of the smallest trees of each height.
+/// How many pairs the smallest balanced tree of each height has, from height 0 on: from height 2 on, one and those of the two heights before.
 const SMALLEST: [u64; 18] = [
     0, 1, 2, 4, 7, 12, 20, 33, 54, 88, 143, 232, 376, 609, 986, 1596, 2583, 4180,
 ];
 
-/// A smallest tree of a height over numbers from the least on. One that is left is lower at its left, and so is each left
-/// tree in it; each right tree in it is lower at its right.
+/// A smallest balanced tree of a height, over the numbers from `least` on. Its left side is the lower one where `is_left`, and else its right
+/// side. Each tree at the left of a node has `is_left`; of those at the right, only the one below the root of the whole tree has it.
 #[derive(Clone, Copy)]
 struct Smallest {
     least: u64,
     height: usize,
-    left: bool,
+    is_left: bool,
 }
 
-/// The whole tree. Its root is lower at its right, and the tree there is left, so that where the root goes, the next number
+/// The whole tree. Its root is lower at its right, and the tree there has `is_left`, so that where the root goes, the next number
 /// takes its place, which stands at the end of a way through the lower side of each node, and each node of this way turns
 /// twice.
 const WHOLE: Smallest = Smallest {
     least: 0,
     height: 17,
-    left: false,
+    is_left: false,
 };
 
 impl Smallest {
@@ -118,8 +118,8 @@ impl Smallest {
     fn below_left(&self) -> Smallest {
         Smallest {
             least: self.least,
-            height: self.height.saturating_sub(if self.left { 2 } else { 1 }),
-            left: true,
+            height: self.height.saturating_sub(if self.is_left { 2 } else { 1 }),
+            is_left: true,
         }
     }
 
@@ -133,8 +133,8 @@ impl Smallest {
     fn below_right(&self) -> Smallest {
         Smallest {
             least: self.root().saturating_add(1),
-            height: self.height.saturating_sub(if self.left { 1 } else { 2 }),
-            left: self.height == 17,
+            height: self.height.saturating_sub(if self.is_left { 1 } else { 2 }),
+            is_left: self.height == 17,
         }
     }
 }
@@ -210,11 +210,11 @@ fn are_deep<M: Memory>(
     requires writable { IsTrue (M.writable mem.old.inner) }
 {
     grown(store, mem, root, others)?;
-    counted(&mut mem.words, NONE);
+    counted(&mut mem.words, NO_STORES);
     asked(store, mem, &on_long_key(PUT, last, &LETTERS[..1024]))?;
-    let put = counted(&mut mem.words, NONE);
+    let put = counted(&mut mem.words, NO_STORES);
     asked(store, mem, &on_long_key(DEL, root, b""))?;
-    let taken = counted(&mut mem.words, NONE);
+    let taken = counted(&mut mem.words, NO_STORES);
     Ok(are_single(&put, 170) && are_single(&taken, 60))
 }
 
