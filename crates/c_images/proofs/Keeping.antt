@@ -15,7 +15,7 @@ keep_replies is lawful step earlier words from = λ gives holds caller few some.
   | inr told ↦ subst (IsKeptReply is) (sym told.is) (gives told.image told.op told.of told.fits)
 ]
 
--- so do the images that callers took of a table that is closed
+-- the images that callers took of a table that is closed keep replies where the table's base does and the object's step answers by replies
 pub taken_keep : {O : Type 0} (is : List ℕ → Type 0) (line_count : O → ℕ) (lawful : O → List ℕ → Type 0) (step : O → List ℕ → List ℕ → List ℕ × List ℕ) (table : Running O) (history : List Entry) (seats : List Seated)
     → All (λ (s : Seated). (i : ℕ) (words : List ℕ) → slice_get s.known.images i ≡ Some words → IsCheckpoint line_count lawful step table history words) seats
     → All (λ (s : Seated). (i : ℕ) (words : List ℕ) → slice_get s.known.images i ≡ Some words → RepliesGoOn is (lawful table.object) (step table.object) table.base.words words) seats

@@ -31,7 +31,7 @@ IsKeptReply is words = (words ≡ replicate 144 0) ⊎ is words
 abbrev pub IsSlot : (List ℕ → Type 0) → ℕ → List ℕ → Type 0
 IsSlot is caller region = slot_number caller region ≢ 0 → IsKeptReply is (slot_reply caller region)
 
--- and so does each caller's
+-- each caller's result that has a number keeps such words
 abbrev pub HoldsReplies : (List ℕ → Type 0) → List ℕ → Type 0
 HoldsReplies is region = (caller : ℕ) → caller < 8 → IsSlot is caller region
 
@@ -39,6 +39,6 @@ HoldsReplies is region = (caller : ℕ) → caller < 8 → IsSlot is caller regi
 abbrev pub GivesReplies : (List ℕ → Type 0) → (List ℕ → Type 0) → (List ℕ → List ℕ → List ℕ × List ℕ) → Type 0
 GivesReplies is lawful step = (image op : List ℕ) → lawful image → Words 144 op → IsKeptReply is (step image op).1
 
--- where an object's step answers so, and the results of one region keep such replies, those of another do
+-- where an object's step answers by what a result may keep, and the results of one region keep such replies, the results of another region do too
 abbrev pub RepliesGoOn : (List ℕ → Type 0) → (List ℕ → Type 0) → (List ℕ → List ℕ → List ℕ × List ℕ) → List ℕ → List ℕ → Type 0
 RepliesGoOn is lawful step earlier region = GivesReplies is lawful step → HoldsReplies is earlier → HoldsReplies is region
