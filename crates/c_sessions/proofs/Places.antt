@@ -29,7 +29,7 @@ use Rattle.c_sessions.specs.declared.session.Session.{Session}
 use Rattle.c_sessions.specs.declared.checkpoint.SessionCheckpoint.{SessionCheckpoint}
 use Rattle.c_sessions.specs.declared.checkpoint.SessionCheckpoint.TheVariants.{At, Again as TakenAgain, Stopped as TakenStopped, OutOfTurn as TakenOutOfTurn}
 
--- nothing is below 0
+-- a caller in whichever state has seen place 0
 pub none_seen : {O : Type 0} (r : Running O) (handed : Handed) → HasSeenPlace r 0 handed
 none_seen r (Idle caller) = record { front = omega arith; read = inl (omega arith) }
 none_seen r (Linked linked) = λ ticket at. omega arith
@@ -148,12 +148,13 @@ module _ {O : Type 0} (r : Running O) (place : ℕ) where
 abbrev after : {O : Type 0} → Session O → Handed → ℕ → Session O
 after s h place = record { service = s.service; exit = s.exit; handed = Some h; place = place }
 
--- it is ready, and the call came to this
+-- the session after a call is ready, and its caller and its place are what the call made of them
 pub record Left {O : Type 0} (s : Session O) (h : Handed) (place told : ℕ) (come_to : Running O → Handed → Handed → Type 0) : Type 0 where
   pub ready : IsSessionOpen (after s h place)
   pub stands : SessionStands s (after s h place) told (come_to (arc_value s.service))
 
--- so it is where what stands of the caller goes on to this, of what stood before the call and had seen the session's place
+-- A session is ready after a call that gave its caller back in some state, where the caller had seen the session's place before the call, and has seen
+-- the place after it.
 pub left_by : {O : Type 0} (come_to : Running O → Handed → Handed → Type 0) (s : Session O) (b h : Handed) (service : Running O) (place told : ℕ) → service ≡ arc_value s.service → IsSessionOpen s → s.handed ≡ Some b → place ≡ told
     → IsHandedOf service h → come_to service b h → (IsHandedOf service b → HasSeenPlace service s.place b → Goes service (handed_number b) s.place told h) → Left s h place told come_to
 left_by come_to s b h service place told same ready at is of came going =

@@ -15,12 +15,12 @@ use Rattle.seat_pool.specs.Gathering.{IsHandedOf}
 use Rattle.c_sessions.specs.declared.steps.Called.{Called}
 use Rattle.c_sessions.specs.declared.steps.Called.TheVariants.{Done, Pending, Again, Full, Worn, Stopped as CalledStopped, OutOfTurn}
 
--- what a call gives back stands of a caller of this service, and this was done
+-- a call gives back a caller of this service, in whichever state, and this was done
 pub record HandsBack {O : Type 0} (r : Running O) (handed : Handed) (Done : Type 0) : Type 0 where
   pub ready : IsHandedOf r handed
   pub done : Done
 
--- the place that a session tells after a call, which told this one before
+-- the session's place after a call: the answer's place where the call is done, and `before` where it is not
 abbrev pub place_after : Called → ℕ → ℕ
 place_after (Done place) before = place
 place_after called before = before
@@ -47,12 +47,13 @@ EntersNot r op tries before Worn (Idle after) = Submits r op tries before (Enter
 EntersNot r op tries before CalledStopped (Stopped after) = Submits r op tries before (EnteredHalted after)
 EntersNot r op tries before called after = ⊥
 
--- it is entered, and driven to this
+-- an operation is entered into the queue, and its entry is driven to this result
 pub record EntersAndDrives {O : Type 0} (r : Running O) (op : List ℕ) (tries : ℕ) (before : Seated) (called : Called) (after : Handed) (reply : List ℕ) : Type 0 where
   pub linked : Seated
   pub entered : Submits r op tries before (Entered linked)
   pub driven : DrivesTo r tries linked called after reply
 
+-- an operation for the queue has this result: it is entered and driven, or it is not entered
 abbrev pub EntersTo : {O : Type 0} → Running O → List ℕ → ℕ → Seated → Called → Handed → List ℕ → Type 0
 EntersTo r op tries before called after reply = EntersAndDrives r op tries before called after reply ⊎ EntersNot r op tries before called after
 
@@ -70,7 +71,7 @@ abbrev pub CallsFrom : {O : Type 0} → (O → List ℕ → Bool) → Running O 
 CallsFrom reads r op tries (Idle before) called after reply = Calls reads r op tries before called after reply
 CallsFrom reads r op tries before called after reply = (called ≡ OutOfTurn) × (after ≡ before)
 
--- and finishing: out of turn where no entry is linked
+-- finishing the linked entry of a caller in any state: out of turn where no entry is linked, and then nothing is changed
 abbrev pub FinishesFrom : {O : Type 0} → Running O → ℕ → Handed → Called → Handed → List ℕ → Type 0
 FinishesFrom r tries (Linked before) called after reply = DrivesTo r tries before called after reply
 FinishesFrom r tries before called after reply = (called ≡ OutOfTurn) × (after ≡ before)

@@ -47,7 +47,7 @@ module _ {O : Type 0} (line_count : O → ℕ) (lawful : O → List ℕ → Type
     pub seats : List Seated
     pub is : IsClosedWith r seats remains
 
-  -- it was closed with the sessions' callers, as they were handed in
+  -- the service was closed with the callers of its sessions, as the sessions handed them in
   pub record IsClosedBySessions (r : Running O) (handover : ReturnQueue O) (given : List Handed) (account : Account O) (remains : Remains) : Type 0 where
     pub handed : List Handed
     pub accounted : AreAccounted handover given account handed

@@ -10,7 +10,7 @@ use Rattle.cx_service.specs.declared.close.Handed.TheVariants.{Idle, Stopped}
 use Rattle.c_sessions.specs.declared.checkpoint.SessionCheckpoint.{SessionCheckpoint}
 use Rattle.c_sessions.specs.declared.checkpoint.SessionCheckpoint.TheVariants.{At, Again, Stopped as TakenStopped, OutOfTurn}
 
--- the place that a session tells that was to take an image, and told this one before
+-- the session's place after it was to take an image: the image's place, and `before` where none was taken
 abbrev pub place_taken : SessionCheckpoint → ℕ → ℕ
 place_taken (At place) before = place
 place_taken taken before = before
@@ -22,7 +22,7 @@ TakesTo o r words tries before Again (Idle after) = Checkpoints o r words tries 
 TakesTo o r words tries before TakenStopped (Stopped after) = Checkpoints o r words tries before (ImageHalted after)
 TakesTo o r words tries before taken after = ⊥
 
--- and in any state: out of turn where an entry is linked or the caller is stopped, and then nothing is changed
+-- having a caller in any state take an image: out of turn where an entry is linked or the caller is stopped, and then nothing is changed
 abbrev pub TakesFrom : {O : Type 0} → Ghosts O → Running O → List ℕ → ℕ → Handed → SessionCheckpoint → Handed → Type 0
 TakesFrom o r words tries (Idle before) taken after = TakesTo o r words tries before taken after
 TakesFrom o r words tries before taken after = (taken ≡ OutOfTurn) × (after ≡ before)

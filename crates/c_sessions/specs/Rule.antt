@@ -23,6 +23,7 @@ pub record IsHandedInAt {O : Type 0} (home : Option (Running O)) (x : HandedIn O
   pub is : x.handed ≡ Some caller
   pub handed : IsHandedOf (arc_value x.service) caller
 
+-- what a pass knows after the opening of the queue, by its fields
 abbrev pub knows : {O : Type 0} → Option (Running O) → List ℕ → List Handed → List Handed → Knows O
 knows home due given taken = record { offered = None; home = home; due = due; given = given; taken = taken }
 
@@ -30,7 +31,7 @@ knows home due given taken = record { offered = None; home = home; due = due; gi
 abbrev pub new_pass : {O : Type 0} → Knows O
 new_pass = knows None [] [] []
 
--- the pass that put a share of this service into it
+-- the first pass once it put a share of this service into the new queue
 abbrev pub offering : {O : Type 0} → Running O → Knows O
 offering r = record { offered = Some r; home = None; due = []; given = []; taken = [] }
 
@@ -43,10 +44,11 @@ callers_known (Some r) = r.callers
 abbrev pub pass_of_all : {O : Type 0} → Option (Running O) → Knows O
 pass_of_all home = knows home (range_with_len 0 (callers_known home)) [] []
 
--- a pass without the first caller that it was to hand in, and a pass for that caller
+-- a pass without the first caller that it was to hand in
 abbrev pub without_first_due : {O : Type 0} → Knows O → Knows O
 without_first_due v = knows v.home (drop 1 v.due) v.given v.taken
 
+-- a pass that is to hand in the first caller that another pass was to hand in
 abbrev pub first_due : {O : Type 0} → Knows O → Knows O
 first_due v = knows v.home (take 1 v.due) [] []
 
@@ -80,12 +82,13 @@ pub record KeepsSessions {O : Type 0} (items : List (HandedIn O)) (views : List 
   pub callers : (h : ℕ → ℕ) → total_weight (pass_weighs h) views + callers_weigh (by_number h) items ≡ total_weight h (range_with_len 0 service.callers)
   pub accounts : (f : Handed → ℕ) → total_weight (λ (v : Knows O). total_weight f v.given) views ≡ total_weight (λ (v : Knows O). total_weight f v.taken) views + callers_weigh f items
 
--- the queue is new, or what lies in it is the share alone by which its pass learns the service
+-- what lies in the queue is one share of the service alone, by which its pass learns the service
 pub record IsOpening {O : Type 0} (items : List (HandedIn O)) (views : List (Knows O)) : Type 0 where
   pub share : HandedIn O
   pub items_are : items ≡ share ∷ []
   pub views_are : views ≡ offering (arc_value share.service) ∷ []
 
+-- the queue is new: it is empty, or has the share alone by which its pass learns the service
 abbrev pub IsNewQueue : {O : Type 0} → List (HandedIn O) → List (Knows O) → Type 0
 IsNewQueue items views = ((items ≡ []) × (views ≡ new_pass ∷ [])) ⊎ IsOpening items views
 

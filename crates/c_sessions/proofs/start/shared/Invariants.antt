@@ -7,7 +7,7 @@ use Rattle.c_sessions.specs.Sessions.{IsOpenSessionOf, caller_number_in}
 use Rattle.c_sessions.proofs.Numbers.{number_of}
 use Rattle.c_sessions.proofs.start.shared.Given as goal
 
--- the sessions made are ready and of the service, the callers left are of the service and are to be handed in, and all are in order
+-- the sessions made so far are ready and of the service, the callers left are of the service and are to be handed in, and all are in order
 abbrev pub invariant-loop-caller : goal.invariant-loop-caller
 invariant-loop-caller g l = record {
   pass : IsPassIn l.fn.service (map number_of (into_iter_items l.caller-iterator)) (arc_value l.handover) l.pass;
