@@ -58,7 +58,7 @@ pub record IsSetList (words : List ℕ) : Type 0 where
   pub long : length words ≡ 513
   pub few : slice_index words 0 ≤ 256
 
--- The marks say which words are dirty, and of those the words are what the accesses tell. The place is the one noted.
+-- The marks show which words are dirty, and the copy of a dirty word is the value that the caller's accesses left there. The place is the one noted.
 -- The words of the cells and of their sets are those that the caller wrote. A set that is there is one that the caller kept.
 pub record IsCopied (known : Known) (c : Copied) : Type 0 where
   pub long : length c.dirty ≡ length c.words
@@ -73,7 +73,7 @@ pub record IsCopied (known : Known) (c : Copied) : Type 0 where
 abbrev pub IsCopiedWord : Known → ℕ → Type 0
 IsCopiedWord known at = (word : ℕ) × (word_noted None at known.accesses ≡ Some word) × (word_noted None at (loads_of (loaded_of known.local.shared)) ≡ Some word)
 
--- what a copy over a replica held exclusively tells of the words in plain memory: the place was copied, and each dirty word
+-- what is known of the words of a replica held exclusively that was made a copy of another: the place was copied, and each dirty word was
 pub record CopiesDirty (region : ℕ) (known : Known) : Type 0 where
   pub place : IsCopiedWord known 0
   pub dirty : (i : ℕ) → i < region → Contains (held_dirty known.local.exclusive) i → IsCopiedWord known i

@@ -9,7 +9,7 @@ use atomic_table::Closed;
 use cx_core::WonCode;
 use std::alloc::Global;
 
-/// Marks those words, from one on, that are marked.
+/// Carries the marks of a replica over: marks word `from + i` in `dirty` for each word `i` that `marks` has marked.
 pub fn mark_replica(marks: &[bool], from: usize, dirty: &mut Vec<bool>)
     requires { from + length marks.now ≤ vec_len dirty.old }
     ensures len { vec_len dirty.new ≡ vec_len dirty.old }
@@ -22,7 +22,7 @@ pub fn mark_replica(marks: &[bool], from: usize, dirty: &mut Vec<bool>)
     }
 }
 
-/// Adds a code, and each code that a win leads on to, one over the other.
+/// Puts `from` and each code to which the wins lead on from it into `codes`, each code behind the one over which it won.
 pub fn lead_on(mut wins: Vec<WonCode>, from: u64, codes: &mut Vec<u64>)
     requires none { codes.old.items ≡ [] }
     requires room { vec_len wins + 1 ≤ vec_capacity codes.old }
@@ -36,7 +36,7 @@ pub fn lead_on(mut wins: Vec<WonCode>, from: u64, codes: &mut Vec<u64>)
     }
 }
 
-/// Takes a win over this code out, and gives the code that won.
+/// Takes a win over the code `before` out of `wins`, and returns the code that won. `None` where there is no such win.
 fn take_over(wins: &mut Vec<WonCode>, before: u64) -> Option<u64>
     ensures { TakesWin before wins.old.items wins.new.items result }
 {

@@ -13,14 +13,14 @@ use line_lanes::first_apart;
 use std::alloc::{AllocError, Global};
 use std::marker::Model;
 
-/// The words of a caller's 16 cells, each of 145.
+/// How many words a caller's 16 cells have: 2320, 145 in each.
 const ALL_CELL_WORDS: usize = 16 * ENTRY_WORDS;
 
-/// The words of their write sets, each of 513.
+/// How many words the write sets of a caller's 16 cells have: 8208, 513 in each.
 const ALL_SET_WORDS: usize = 16 * SET_WORDS;
 
-/// The words stored, by address, which of them are dirty, the place last loaded or stored, and the words of the cells, one
-/// cell after another, and so those of the cells' sets, and the set that the caller keeps.
+/// What a caller keeps of the words that it wrote: those that it stored in a replica, by address, and which of them are dirty; the place that it last
+/// loaded or stored; the words of its cells, one cell after another; the words of the cells' write sets, one set after another; and the set that it keeps.
 #[derive(Debug, Drop)]
 pub struct Copies {
     words: Vec<u64>,
@@ -54,14 +54,14 @@ impl Copies {
         })
     }
 
-    /// A replica was tried, of which nothing is known.
+    /// Forgets the place: a replica was tried of which nothing is known.
     pub fn begin(&mut self)
         ensures { self.new ≡ record self.old { place = 0 } }
     {
         self.place = 0;
     }
 
-    /// A word was loaded, of the replica held exclusively or of another.
+    /// Records that word `i` of a replica was loaded and was `found`. Where that replica is held exclusively (`held`), word 0 is its place.
     pub fn load(&mut self, held: bool, i: u64, found: u64)
         ensures { self.new ≡ (if held then record self.old { place = if i == 0 then found else self.old.place } else self.old) }
     {
@@ -70,7 +70,7 @@ impl Copies {
         }
     }
 
-    /// A word was stored.
+    /// Records that `v` was stored in word `i` of the replica held exclusively: the word is dirty then, and word 0 is the replica's place.
     pub fn store(&mut self, i: u64, v: u64)
         requires word { i < length self.old.words }
         requires mark { i < length self.old.dirty }
@@ -83,7 +83,7 @@ impl Copies {
         }
     }
 
-    /// A word was persisted.
+    /// Records that word `i` of the replica was persisted: it is not dirty any more.
     pub fn persist(&mut self, i: u64)
         requires { i < length self.old.dirty }
         ensures { self.new ≡ record self.old { dirty = slice_set self.old.dirty i false } }
@@ -91,7 +91,7 @@ impl Copies {
         self.dirty.clear(i);
     }
 
-    /// A word was written into a cell.
+    /// Records that `v` was written into word `i` of cell `j`.
     pub fn write_cell(&mut self, j: u64, i: u64, v: u64)
         requires { ENTRY_WORDS * j + i < length self.old.cells }
         ensures { self.new ≡ record self.old { cells = slice_set self.old.cells (ENTRY_WORDS * j + i) v } }
@@ -99,7 +99,7 @@ impl Copies {
         self.cells[(ENTRY_WORDS as u64 * j + i) as usize] = v;
     }
 
-    /// A word was written into the set of a cell.
+    /// Records that `v` was written into word `i` of the write set of cell `j`.
     pub fn write_set(&mut self, j: u64, i: u64, v: u64)
         requires { SET_WORDS * j + i < length self.old.sets }
         ensures { self.new ≡ record self.old { sets = slice_set self.old.sets (SET_WORDS * j + i) v } }
@@ -107,7 +107,7 @@ impl Copies {
         self.sets[(SET_WORDS as u64 * j + i) as usize] = v;
     }
 
-    /// A word of the set of a cell.
+    /// Word `i` of the write set of cell `j`.
     pub fn set_word(&self, j: u64, i: u64) -> u64
         requires { SET_WORDS * j + i < length self.now.sets }
         ensures { result ≡ slice_index self.now.sets (SET_WORDS * j + i) }
@@ -115,7 +115,7 @@ impl Copies {
         self.sets[(SET_WORDS as u64 * j + i) as usize]
     }
 
-    /// Keeps the set of an own entry with a ticket, in place of the one before. What is given back is room for a set.
+    /// Keeps in `words` the write set of the caller's entry at `ticket`, in place of the set kept before. `words` is room for a set then.
     pub fn keep(&mut self, ticket: u64, words: &mut Vec<u64>)
         requires { IsSetList words.old.items }
         ensures kept { self.new ≡ record self.old { kept = Some (record { ticket = ticket; set = words.old.items }) } }
@@ -124,7 +124,7 @@ impl Copies {
         self.kept.put(ticket, words);
     }
 
-    /// Whether the set that the caller keeps is that of a ticket; if so it is handed out, and none is kept then.
+    /// Whether the set that the caller keeps is that of the entry at `ticket`. If so the set is put into `words`, and none is kept then.
     pub fn take_kept(&mut self, ticket: u64, words: &mut Vec<u64>) -> bool
         requires { IsSetList words.old.items }
         ensures taken { IsTrue result → self.old.kept ≡ Some (record { ticket = ticket; set = words.new.items }) }
@@ -134,9 +134,11 @@ impl Copies {
         self.kept.take(ticket, words)
     }
 
-    /// The first place from one on at which an operation's words differ from those of a cell behind its first, 144 where that is none.
+    /// The first place from `from` on at which the words of `op` differ from those of cell `j` behind its first, and 144 where they differ at none. A cell has
+    /// the entry's number in its first word, and the operation's 144 words behind it.
     pub fn cell_apart(&self, j: u64, op: &OpWords, from: usize) -> usize
         requires j { j < 16 }
+        // 2320 is 16 * ENTRY_WORDS: all 16 cells are here.
         requires long { length self.now.cells ≡ 2320 }
         requires from { from ≤ OP_WORDS }
         ensures within { (from ≤ result) × (result ≤ OP_WORDS) }
@@ -147,9 +149,10 @@ impl Copies {
         first_apart(&self.cells[first..first + OP_WORDS], op, from)
     }
 
-    /// Makes an entry's number and operation those that stand in a cell.
+    /// Puts the number and the operation that stand in cell `j` into `entry`: the cell's first word, and the 144 words behind it.
     pub fn read_entry(&self, j: u64, entry: &mut Entry)
         requires j { j < 16 }
+        // 2320 is 16 * ENTRY_WORDS: all 16 cells are here.
         requires long { length self.now.cells ≡ 2320 }
         ensures { entry.new ≡ record entry.old { number = slice_index self.now.cells (ENTRY_WORDS * j); op = slice_range self.now.cells (ENTRY_WORDS * j + 1) (ENTRY_WORDS * j + ENTRY_WORDS) } }
     {
@@ -160,7 +163,7 @@ impl Copies {
             .copy_from_slice(&self.cells[from + 1..from + ENTRY_WORDS]);
     }
 
-    /// The word last stored.
+    /// The value last stored in word `i` of the replica.
     pub fn word(&self, i: u64) -> u64
         requires { i < length self.now.words }
         ensures { result ≡ slice_index self.now.words i }
@@ -168,21 +171,21 @@ impl Copies {
         self.words[i as usize]
     }
 
-    /// The place last loaded or stored.
+    /// The replica's place, as it was last loaded or stored; 0 after `begin`, where nothing is known of it.
     pub fn place(&self) -> u64
         ensures { result ≡ self.now.place }
     {
         self.place
     }
 
-    /// Which words are dirty.
+    /// For each word of the replica, whether it is dirty.
     pub fn marks(&self) -> &[bool]
         ensures { result.now ≡ self.now.dirty }
     {
         self.dirty.as_slice()
     }
 
-    /// Some dirty word.
+    /// The address of some dirty word; `None` where no word is dirty.
     pub fn some_dirty(&mut self) -> Option<u64>
         ensures same { self.new ≡ self.old }
         ensures some { IfSome result (λ at. slice_get self.old.dirty at ≡ Some true) }
@@ -191,7 +194,7 @@ impl Copies {
         self.dirty.some_marked()
     }
 
-    /// The words of a region.
+    /// How many words a region has.
     pub fn region(&self) -> u64
         ensures { result ≡ length self.now.words }
     {

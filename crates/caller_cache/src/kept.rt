@@ -29,7 +29,7 @@ impl Model for Kept {
 }
 
 impl Kept {
-    /// Room for a set of 256 pairs, and none is kept. `Err` says that memory ran out.
+    /// Takes room for a set of 256 pairs, and keeps none. `Err` means out of memory.
     pub(crate) fn empty(alloc: Global) -> Result<Kept, AllocError>
         ensures { IfOk result (λ k. k ≡ None) }
     {
@@ -39,7 +39,7 @@ impl Kept {
         })
     }
 
-    /// Keeps the set of an own entry with a ticket, in place of the one before. What is given back is room for a set.
+    /// Keeps in `words` the write set of the caller's entry at `ticket`, in place of the set kept before. `words` is room for a set then.
     pub(crate) fn put(&mut self, ticket: u64, words: &mut Vec<u64>)
         requires { IsSetList words.old.items }
         ensures kept { self.new ≡ Some (record { ticket = ticket; set = words.old.items }) }
@@ -49,7 +49,7 @@ impl Kept {
         self.ticket = Some(ticket);
     }
 
-    /// Whether the set that is kept is that of a ticket; if so it is handed out, and none is kept then.
+    /// Whether the set that is kept is that of the entry at `ticket`. If so the set is put into `words`, and none is kept then.
     pub(crate) fn take(&mut self, ticket: u64, words: &mut Vec<u64>) -> bool
         requires { IsSetList words.old.items }
         ensures taken { IsTrue result → self.old ≡ Some (record { ticket = ticket; set = words.new.items }) }

@@ -18,9 +18,9 @@ pub(crate) struct Marks {
     marks: Vec<bool>,
     /// The addresses marked since the list was last turned into marks of lines.
     listed: Vec<u64>,
-    /// The lines in which words marked before that may lie,
+    /// For each line, whether words may lie in it that were marked before the list was last turned into marks of lines.
     lines: Vec<bool>,
-    /// and the first of which none below has one.
+    /// No line below this one has a mark.
     first: usize,
 }
 
@@ -80,7 +80,7 @@ impl Marks {
         }
     }
 
-    /// The marks.
+    /// For each word, whether it is marked.
     pub(crate) fn as_slice(&self) -> &[bool]
         ensures { result.now ≡ self.now }
     {

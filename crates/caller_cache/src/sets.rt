@@ -10,8 +10,8 @@ use crate::summary::CachedLocal;
 use cx_core::SeenOffer;
 
 impl CachedLocal {
-    /// The word that offers the set of the entry in cell `j`: what follows the entry's ticket. Where the cell has no ticket it is the word
-    /// that stands there.
+    /// The word that offers the set of the entry in cell `j`: the entry's ticket plus 1. Where the cell has no ticket, it is the cell's offer word as
+    /// it stands.
     pub fn offering_word(&self, j: u64) -> u64
         requires j { j < 16 }
         requires small { (t : ℕ) → slice_index_or self.now.tickets j None ≡ Some t → t < 2 ^ 40 }
@@ -33,7 +33,7 @@ impl CachedLocal {
         self.steps = self.steps.saturating_add(1);
     }
 
-    /// The offer word of a cell was found, for the entry with a ticket.
+    /// A load of a cell's offer word, for the entry at a ticket, found this word.
     pub(crate) fn load_offer(&mut self, cell: u64, ticket: u64, word: u64)
         ensures { self.new ≡ record self.old { seen_offer = Some (record { cell = cell; ticket = ticket; word = word }); steps = one_more self.old.steps } }
     {

@@ -57,7 +57,7 @@ pub struct CachedLocal {
     pub shared: Option<u64>,
     /// The replica on which it left a passer's mark.
     pub passer: Option<u64>,
-    /// The replica that it downgraded, and the place noted of it.
+    /// The replica on which the caller turned its exclusive right into a shared one, and the place of that replica.
     pub downgraded: Option<HeldDowngraded>,
     /// The code with which it won and that it did not retire, and the code before it.
     pub won: Option<WonCode>,
@@ -162,7 +162,7 @@ impl CachedLocal {
         self.steps = self.steps.saturating_add(1);
     }
 
-    /// A link was lost to the word found.
+    /// The caller lost a link: the slot had the word `found` already.
     fn lose(&mut self, callers: Callers, found: u64)
         ensures { (l : _) → self.old ≡ summary_of l → self.new ≡ summary_of (lost callers.number l found) }
     {
@@ -203,14 +203,14 @@ impl CachedLocal {
         self.steps = self.steps.saturating_add(1);
     }
 
-    /// A word was loaded or stored that no number tells of.
+    /// Counts a step that loaded or stored a word and changes no other number.
     pub(crate) fn pass(&mut self)
         ensures { self.new ≡ record self.old { steps = one_more self.old.steps } }
     {
         self.steps = self.steps.saturating_add(1);
     }
 
-    /// FREE was found.
+    /// A load of FREE found this word.
     pub(crate) fn load_free(&mut self, found: u64)
         ensures { self.new ≡ record self.old { seen_free = max self.old.seen_free found; steps = one_more self.old.steps } }
     {
@@ -230,7 +230,7 @@ impl CachedLocal {
         }
     }
 
-    /// A replica was taken exclusively.
+    /// The caller took replica `r` exclusively.
     fn take(&mut self, r: u64)
         ensures { (instance : Instance) (l : _) → self.old ≡ summary_of l → self.new ≡ summary_of (taken instance unseen r l) }
     {
@@ -239,7 +239,7 @@ impl CachedLocal {
         self.steps = self.steps.saturating_add(1);
     }
 
-    /// An exclusive try was refused.
+    /// An exclusive try of replica `r` was refused.
     fn refuse(&mut self, callers: Callers, r: u64)
         requires { r < 2 * callers.number }
         ensures { (l : _) (found : ℕ) → self.old ≡ summary_of l → self.new ≡ summary_of (refused_by callers.number r l found) }
@@ -253,7 +253,7 @@ impl CachedLocal {
         }
     }
 
-    /// Whether each replica was refused.
+    /// Whether an exclusive try of each replica of the table was refused since the list of refusals was last emptied.
     fn all_refused(&self, callers: Callers) -> bool
         ensures { result ≡ list_all (λ r. slice_index_or self.now.refused r false) (range_with_len 0 (2 * callers.number)) }
     {
@@ -298,7 +298,7 @@ impl CachedLocal {
         self.steps = self.steps.saturating_add(1);
     }
 
-    /// An exclusive right was turned into a shared one, at the place noted.
+    /// The exclusive right on replica `r` was turned into a shared one, where the replica's place is `place`.
     pub(crate) fn downgrade(&mut self, r: u64, place: u64)
         ensures { self.new ≡ record self.old { exclusive = None; downgraded = Some (record { replica = r; place = place }); steps = one_more self.old.steps } }
     {
@@ -315,7 +315,7 @@ impl CachedLocal {
         self.steps = self.steps.saturating_add(1);
     }
 
-    /// CUR was found.
+    /// A load of CUR found this code.
     pub(crate) fn load_cur(&mut self, callers: Callers, found: u64)
         ensures { Follows callers.number LoadCur found self.old self.new }
     {
@@ -363,7 +363,7 @@ impl CachedLocal {
         self.steps = self.steps.saturating_add(1);
     }
 
-    /// A publication was lost to the code found.
+    /// The caller lost a publication: CUR had the code `found`.
     fn lose_cur(&mut self, callers: Callers, found: u64)
         ensures { (l : _) → self.old ≡ summary_of l → self.new ≡ summary_of (outrun callers.number l found) }
     {
@@ -375,7 +375,7 @@ impl CachedLocal {
         self.steps = self.steps.saturating_add(1);
     }
 
-    /// A win was retired.
+    /// The caller retired its win: it has no code any more that won and is not retired.
     pub(crate) fn retire(&mut self)
         ensures { self.new ≡ record self.old { won = None; steps = one_more self.old.steps } }
     {
