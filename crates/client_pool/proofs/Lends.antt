@@ -213,7 +213,7 @@ module _ {O : Type 0} (r : Running O) where
       returned = ap (λ (u : LenderPass). u.returned) is ∙ ap (λ l. (given_from (view mid.pass) l y).returned) out.holds.held;
     }
 
-    -- and it is the one that the call began with
+    -- the caller that a call gave back is the one that the call began with, where no other caller was given back in the call
     pub returns_first : (before mid after : Lent) (first y : Seated) → TellsSame before mid → IsFirstCaller before.kept (view mid.pass) first → Returns mid after y → ReturnsFirst before after first y
     returns_first before mid after first y same is back = record {
       kept = is.kept;

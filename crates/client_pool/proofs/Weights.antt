@@ -89,7 +89,7 @@ told_is t u lt =
     ∙ ap (λ k. told_of u.caller u.entry.ticket u.entry.entry.caller u.entry.entry.number u.entry.entry.op k t.answer.reply) (one_is t.answer.ticket u.answer.ticket f.0)
     ∙ ap (λ l. told_of u.caller u.entry.ticket u.entry.entry.caller u.entry.entry.number u.entry.entry.op u.answer.ticket l) (list_is t.answer.reply u.answer.reply f.1)
 
--- and of reads
+-- 1 where two reads are the same, and 0 where they are not
 abbrev pub same_read : SeenRead → SeenRead → ℕ
 same_read x y = both_of (one_at x.place y.place) (both_of (same_list x.op y.op) (both_of (same_list x.reply y.reply) (one_at x.before y.before)))
 

@@ -29,11 +29,12 @@ pub record IsReadOf (instance : Instance) (history : List HistoryEntry) (read : 
   pub to : read.place ≤ instance.base.place + length history
   pub reply : read.reply ≡ reply_after instance history read.place read.op
 
+-- a call is of the history: its entry stands there with its answer, or its read is of a place there
 abbrev pub IsCallOf : Instance → List HistoryEntry → Call → Type 0
 IsCallOf instance history (Entry told) = IsEntryOf instance history told
 IsCallOf instance history (Look read) = IsReadOf instance history read
 
--- the entry and its answer stand in the lists of the caller that is named, both at this index, and the read in those of some caller
+-- an entry and its answer stand in the lists of the caller that is named, both at this index
 pub record IsCallersEntry (locals : List Local) (told : AnsweredCall) : Type 0 where
   pub local : Local
   pub of_caller : slice_get locals told.caller ≡ Some local
@@ -41,6 +42,7 @@ pub record IsCallersEntry (locals : List Local) (told : AnsweredCall) : Type 0 w
   pub own : slice_get local.own index ≡ Some told.entry
   pub answered : slice_get local.answered index ≡ Some told.answer
 
+-- a read stands in the list of reads of some caller
 pub record IsCallersRead (locals : List Local) (read : SeenRead) : Type 0 where
   pub caller : ℕ
   pub local : Local
@@ -48,6 +50,7 @@ pub record IsCallersRead (locals : List Local) (read : SeenRead) : Type 0 where
   pub index : ℕ
   pub seen : slice_get local.seen_reads index ≡ Some read
 
+-- a call stands in the lists of some caller
 abbrev pub IsCallersCall : List Local → Call → Type 0
 IsCallersCall locals (Entry told) = IsCallersEntry locals told
 IsCallersCall locals (Look read) = IsCallersRead locals read

@@ -30,16 +30,17 @@ use Rattle.client_pool.specs.declared.pool.PooledRead.{PooledRead}
 use Rattle.client_pool.specs.declared.pool.PooledRead.TheVariants.{Read as ReadSeen, Queued, Full as FullRead, Worn as WornRead, Stopped as StoppedRead, Memory as MemoryRead}
 use Rattle.client_pool.specs.Lending.{ComesFrom, HaltsBesideQueue, IsLentTo, IsPool, IsReadRefused, KeepsFull, KeepsStopped, KeepsWorn, ReturnsFirst, is_live, limits_of}
 
--- what its client sees of a call
+-- what a client is answered by a call
 abbrev pub answered_by : Call → Answered
 answered_by (Entry told) = Updated told.caller told.answer
 answered_by (Look read) = Read (record { place = read.place; reply = read.reply })
 
--- where its answer holds, and below which place no later answer of the client does
+-- the place at which a call's answer holds: the ticket of an entry, and the place of a read
 abbrev pub answer_place_of : Call → ℕ
 answer_place_of (Entry told) = told.answer.ticket
 answer_place_of (Look read) = read.place
 
+-- the place below which no later answer of the client holds: the ticket plus 1 of an entry, and the place of a read
 abbrev pub next_place_of : Call → ℕ
 next_place_of (Entry told) = told.answer.ticket + 1
 next_place_of (Look read) = read.place
@@ -54,12 +55,13 @@ abbrev pub AreInTurn : ℕ → List Call → Type 0
 AreInTurn floor [] = Unit {0}
 AreInTurn floor (call ∷ calls) = (floor ≤ answer_place_of call) × AreInTurn (next_place_of call) calls
 
--- the entries among calls, and the reads
+-- the entries among calls, in their order
 abbrev pub entries_called : List Call → List AnsweredCall
 entries_called [] = []
 entries_called (Entry told ∷ calls) = told ∷ entries_called calls
 entries_called (Look read ∷ calls) = entries_called calls
 
+-- the reads among calls, in their order
 abbrev pub reads_called : List Call → List SeenRead
 reads_called [] = []
 reads_called (Entry told ∷ calls) = reads_called calls
@@ -84,7 +86,7 @@ pub record MayCall {O : Type 0} (reads : O → List ℕ → Bool) (pool : Pool O
   pub client_is : IsClientOf pool.service pool.line.table.shared.table_id client
   pub live : is_live client.lent.kept ≡ true
 
--- its number, the limits of its service's callers, and what it has for the closing
+-- a client keeps its number, the step limits of its service's callers, and what it has for the closing
 pub record IsSameClient (before after : Client) : Type 0 where
   pub number : after.number ≡ before.number
   pub limits : limits_of after.lent ≡ limits_of before.lent
@@ -179,7 +181,7 @@ pub record WantsRoom (before after : Client) : Type 0 where
 abbrev pub HaltsClientUpdate : {O : Type 0} → Running O → List ℕ → Seated → StoppedSeat → Type 0
 HaltsClientUpdate r op asked stopped = HaltsBesideQueue r asked stopped ⊎ UpdateHalted r op asked stopped
 
--- how a read does
+-- how a read of this operation stops its caller: in seeing what is below the floor, or in the read itself
 abbrev pub HaltsClientRead : {O : Type 0} → Running O → List ℕ → Seated → StoppedSeat → Type 0
 HaltsClientRead r op asked stopped = HaltsBesideQueue r asked stopped ⊎ ReadStops r op asked stopped
 
@@ -191,7 +193,8 @@ UpdatesForClient r table op reply before after Worn = HasNoMore r table before a
 UpdatesForClient r table op reply before after (Stopped linked) = HasNoMore r table before after × KeepsStopped r table (HaltsClientUpdate r op) before.lent after.lent linked
 UpdatesForClient r table op reply before after Memory = HasNoMore r table before after × WantsRoom before after
 
--- The result of a read of this operation, which left these words in the client's buffer. The same caller makes it. It enters the queue only where it met eight refusals beside it.
+-- The result of a read of this operation, which left these words in the client's buffer. The caller that the client keeps makes the call,
+-- where it keeps one. The read enters the queue only where the caller met eight refusals beside it.
 abbrev pub ReadsForClient : {O : Type 0} → Running O → TableId → List ℕ → List ℕ → Client → Client → PooledRead → Type 0
 ReadsForClient r table op reply before after (ReadSeen place) = (made : HasRead r table op before after (seen_with place reply)) × IsReadShown r op before.lent after.lent made.read
 ReadsForClient r table op reply before after (Queued ticket) = (made : HasUpdated r table op before after (answer_with ticket reply)) × IsClientAnswered r (IsReadRefused r) op before.lent after.lent made.told

@@ -32,7 +32,7 @@ use Rattle.client_pool.specs.declared.read_beside.LookupOutcome.TheVariants.{Fou
 use Rattle.client_pool.specs.declared.lend.EntryOutcome.{EntryOutcome}
 use Rattle.client_pool.specs.declared.lend.EntryOutcome.TheVariants.{Done, Full, Worn, Halted}
 
--- its pass is one of the queue of this table, with one part
+-- what is lent to a client of this service has a pass of the queue of this table, with one part, which placed no caller
 pub record IsPart {O : Type 0} (r : Running O) (table : TableId) (lent : Lent) : Type 0 where
   pub pass : (lent.pass.table_id ≡ table) × (lent.pass.me.1 ≡ [])
   pub home : IsHomeOf r (view lent.pass).home
@@ -65,7 +65,7 @@ is_live (Some (Idle now)) = true
 is_live (Some (Linked seat)) = false
 is_live (Some (Stopped stopped)) = false
 
--- this caller is out for a call of the client
+-- this caller is out for a call of the client: the client's pass holds it, and the client keeps none
 pub record IsOut {O : Type 0} (r : Running O) (table : TableId) (lent : Lent) (now : Seated) : Type 0 where
   pub part : IsPart r table lent
   pub none : lent.kept ≡ None
@@ -82,7 +82,7 @@ pub record TellsSame (before after : Lent) : Type 0 where
   pub shown : (view after.pass).shown ≡ (view before.pass).shown
   pub returned : (view after.pass).returned ≡ (view before.pass).returned
 
--- it is the caller that a client keeps, where it keeps one
+-- this is the caller that a client keeps, where the client keeps one
 abbrev pub IsKeptCaller : Option Handed → Seated → Type 0
 IsKeptCaller None x = Unit {0}
 IsKeptCaller (Some handed) x = seat_of handed ≡ x
@@ -92,7 +92,7 @@ pub record IsFirstCaller (keeps : Option Handed) (v : LenderPass) (x : Seated) :
   pub kept : IsKeptCaller keeps x
   pub taken : keeps ≡ None → v.held ≡ x ∷ []
 
--- The caller that was out was given back, and no other, and was so then.
+-- The caller that was out was given back as `back`, and no other caller was given back.
 pub record Returns (before after : Lent) (back : Seated) : Type 0 where
   pub taken : Seated
   pub held : (view before.pass).held ≡ taken ∷ []
@@ -115,7 +115,7 @@ pub record ComesFrom {O : Type 0} (r : Running O) (first now : Seated) : Type 0 
   pub front : first.known.local.front ≤ now.known.local.front
   pub steps : idle.more ≡ [] → StepsOn first now
 
--- A read of such a caller met just eight refusals beside the queue, before it enters it.
+-- A caller that came from the one that the call began with met just eight refusals in a read beside the queue, before the read enters the queue.
 pub record IsReadRefused {O : Type 0} (r : Running O) (first now : Seated) : Type 0 where
   pub looked : Seated
   pub since : ComesFrom r first looked
@@ -127,7 +127,7 @@ pub record HaltsBesideQueue {O : Type 0} (r : Running O) (before : Seated) (stop
   pub halted : ReadHalted r op before stopped
   pub due : ReadDue 8 before stopped.seat
 
--- The caller was stopped in such a read.
+-- The caller was stopped in a read beside the queue, after reads that were answered.
 pub record HaltsLater {O : Type 0} (r : Running O) (before : Seated) (stopped : StoppedSeat) : Type 0 where
   pub asked : Seated
   pub since : ComesFrom r before asked
@@ -231,7 +231,7 @@ MaySettle r lent (UpdatedFull back note) = Unit {0}
 MaySettle r lent (UpdatedWorn back) = Unit {0}
 MaySettle r lent (UpdatedHalted stopped) = Unit {0}
 
--- it was given back
+-- the caller was given back: what the pass knows says so, and the client keeps what it kept
 pub record GivesBack (table : TableId) (before after : Lent) (caller : Seated) : Type 0 where
   pub pass : (after.pass.table_id ≡ table) × (after.pass.me.1 ≡ [])
   pub view_is : view after.pass ≡ with_given (view before.pass) caller
@@ -284,7 +284,7 @@ pub record SeesPlace {O : Type 0} (r : Running O) (table : TableId) (place : ℕ
   pub returns : ReturnsFirst before after asked now
   pub caught : CatchUpCaught r place asked now
 
--- such a caller found the place in CUR below the one asked for, and was given back
+-- a caller, the one that the client kept or else one out of the queue, found the place in CUR below the one asked for, and was given back
 pub record SeesLess {O : Type 0} (r : Running O) (table : TableId) (place found : ℕ) (before after : Lent) : Type 0 where
   pub given : IsGivenBack r table before after
   pub asked : Seated

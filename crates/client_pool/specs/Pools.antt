@@ -94,10 +94,11 @@ pub record AreNewClients {O : Type 0} (r : Running O) (table : TableId) (limits 
   pub limits_are : All (λ (c : Client). limits_of c.lent ≡ limits) clients
   pub calls : All (λ (c : Client). HasCalls r c []) clients
 
--- what was lent to clients, and what they are beside it
+-- what was lent to each client, in order
 abbrev pub lents_of : List Client → List Lent
 lents_of clients = map (λ (c : Client). c.lent) clients
 
+-- what is left of a client once its pool is to be closed
 abbrev pub former_of : Client → FormerClient
 former_of c = record { number = c.number; floor = c.floor; answers = c.answers }
 
