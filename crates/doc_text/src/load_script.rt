@@ -15,8 +15,8 @@ use std::alloc::{AllocError, Global};
 const LINES: u64 = 1_024;
 
 /// The script of a load: 1,024 lines and one life with power choice 0, of `clients` clients, each with `ops` commands. All commands
-/// are counted together, from 0 and client by client. Each adds to one of 100 keys; with which key and amount the count begins is told
-/// by `from`. `Err` means out of memory.
+/// are counted together, from 0 and client by client. Each adds to one of 100 keys; `from` sets with which key and amount the count
+/// begins. `Err` means out of memory.
 #[tactic(auto, using(crate::proofs::Loads::generated_scripts_keep_limits))]
 pub fn generated(alloc: Global, from: u64, clients: u32, ops: u64) -> Result<Script, AllocError>
     requires { IsLoad from clients ops }
