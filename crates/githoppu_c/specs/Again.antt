@@ -34,8 +34,8 @@ use Rattle.githoppu_c.specs.declared.content.AnyHandleState.TheVariants.{Documen
 use Rattle.githoppu_c.specs.declared.content.HandleState.{HandleState}
 use Rattle.githoppu_c.specs.declared.content.HandleState.TheVariants.{Closed, Session}
 
--- Words are taken up again. As many sessions as there may be are recovered from them, and what became of each is told, unless memory runs out, or the
--- sessions' new queue did not take its first entry. What is taken up holds what was kept.
+-- Words are taken up again. As many sessions as there may be are recovered from them, unless memory runs out or the sessions' new queue did not take its
+-- first entry, and the outcome of each session is written, unless memory runs out. What is taken up holds what was kept.
 pub record IsTakenUpAgain (kind : ℕ) (taken : Base → Type 0) (faulty : WordsFault → Type 0) (kept : Base → Type 0) (words : List ℕ) : Type 0 where
   pub recovers : (count : ℕ) (code : ℤ) → AreFew count → Recovers kind taken faulty words count code → (code ≡ pos 0) ⊎ IsOpenCode code
   pub tells : (session number_before number : ℕ) (reply_before reply : List ℕ) (code : ℤ) → session < 8 →
@@ -58,16 +58,19 @@ pub record IsAgain {O : Type 0} (o : Ghosts O) (kind : ℕ) (taken : Running O �
   pub closed : IsClosedOf o.line_count o.lawful o.step o.only_reads table r
   pub again : IsTakenUpAgain kind (taken table) (faulty table) (IsKeptOfClosed o table closed.seats r choice) words
 
--- of a store, of a queue, and of a program's object
+-- the image by choice of a closed document store is taken up again
 abbrev pub IsStoreAgain : Remains → ℕ → List ℕ → Type 0
 IsStoreAgain r choice words = IsAgain store_ghosts 1 (λ _. IsStoreIn words) (λ _. IsStoreFault words) r choice words
 
+-- the image by choice of a closed queue is taken up again
 abbrev pub IsQueueAgain : Remains → ℕ → List ℕ → Type 0
 IsQueueAgain r choice words = IsAgain queue_ghosts 2 (λ _. IsQueueIn words) (λ _. IsQueueFault words) r choice words
 
+-- the base of a program's object in words, where the program takes over images with the fingerprint `before`, or none
 abbrev pub is_program_in : List ℕ → Running ProgramObject → Option ℕ → Base → Type 0
 is_program_in words table before = IsProgramIn table.object.version (old_in_lines table.object before) words
 
+-- why there is no such base: the fault of the words for the program's object
 abbrev pub is_program_fault : List ℕ → Running ProgramObject → Option ℕ → WordsFault → Type 0
 is_program_fault words table before = IsProgramFault table.object.version (old_in_lines table.object before) words
 
@@ -77,6 +80,7 @@ IsAgainWithAny kept words table =
     (before : Option ℕ) → is_other before table.object.version ≡ true
     → IsRecoveredAgain 3 (is_program_in words table before) (is_program_fault words table before) kept words
 
+-- the image by choice of a closed object of a program is recovered again by its program
 pub record IsProgramAgain (r : Remains) (choice : ℕ) (words : List ℕ) : Type 0 where
   pub table : Running ProgramObject
   pub closed : IsClosedOf program_ghosts.line_count program_ghosts.lawful program_ghosts.step program_ghosts.only_reads table r
@@ -96,20 +100,22 @@ pub record IsRegionIn {O : Type 0} (o : Ghosts O) (kind : ℕ) (r : Running O) (
   pub base : LawfulBase r.lines (o.lawful r.object) (base_at place region)
   pub written : IsWrittenOf kind r.callers r.lines place region words
 
--- They are taken up again as that base where each result in it that has a number keeps a reply. Recovery looks at that too, and of a running service it is
--- known once it is closed.
+-- The words of an image that a session took of a running service are taken up again as the base that they have, where each result in it that has a number
+-- keeps a reply. Recovery looks at that too, and of a running service it is known once the service is closed.
 pub record IsRegionAgain {O : Type 0} (o : Ghosts O) (kind : ℕ) (is : List ℕ → Type 0) (taken : Base → Type 0) (faulty : WordsFault → Type 0)
     (r : Running O) (words : List ℕ) : Type 0 where
   pub has : IsRegionIn o kind r words
   pub again : HoldsReplies is has.region → IsTakenUpAgain kind taken faulty (λ base. base ≡ base_at has.place has.region) words
 
--- of a running store, of a running queue, and of a program's object
+-- the image that a session took of a running document store is taken up again
 abbrev pub IsTakenStoreAgain : Running DocStore → List ℕ → Type 0
 IsTakenStoreAgain r words = IsRegionAgain store_ghosts 1 IsDocumentReply (IsStoreIn words) (IsStoreFault words) r words
 
+-- the image that a session took of a running queue is taken up again
 abbrev pub IsTakenQueueAgain : Running Fifo → List ℕ → Type 0
 IsTakenQueueAgain r words = IsRegionAgain queue_ghosts 2 IsQueueReply (IsQueueIn words) (IsQueueFault words) r words
 
+-- the image that a session took of a running object of a program is recovered again by its program
 pub record IsTakenProgramAgain (r : Running ProgramObject) (words : List ℕ) : Type 0 where
   pub has : IsRegionIn program_ghosts 3 r words
   pub again : IsAgainWithAny (λ base. base ≡ base_at has.place has.region) words r
@@ -150,7 +156,7 @@ abbrev pub ContentComesBack : {O : Type 0} → Ghosts O → ℕ → ReplyKind �
 ContentComesBack o kind replies choice words code (Closed r) = code ≡ pos 0 → IsLeftImage o kind replies choice words r
 ContentComesBack o kind replies choice words code content = Unit {0}
 
--- and so is the one that a session took of a running one
+-- the image that a session took of a running service is taken up as the base that it is of, unless memory runs out
 pub record IsTakenImage {O : Type 0} (o : Ghosts O) (kind : ℕ) (words : List ℕ) (r : Running O) : Type 0 where
   pub running : IsTableWithinLimits o.line_count o.lawful r
   pub has : IsRegionIn o kind r words

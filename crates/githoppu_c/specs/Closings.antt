@@ -44,6 +44,7 @@ ContentCloses {O = O} o code (Unclosed rest) after =
     × (after ≡ content_left closing) × (code ≡ closing_code closing)
 ContentCloses o code before after = (after ≡ before) × (code ≡ pos 6)
 
+-- closing what C has of a store, of a queue, or of a program's object
 abbrev pub ClosesAs : AnyHandleState → AnyHandleState → ℤ → Type 0
 ClosesAs before after code = OfBoth (ContentCloses store_ghosts code) (ContentCloses queue_ghosts code) (ContentCloses program_ghosts code) before after
 
@@ -51,7 +52,7 @@ ClosesAs before after code = OfBoth (ContentCloses store_ghosts code) (ContentCl
 abbrev pub remains_words : Remains → ℕ
 remains_words r = image_size r.callers r.lines + 8
 
--- what a closed service left, by choice: written where there are as many words as it takes, which is the number that is told; else nothing is written
+-- what a closed service left, by choice: written where there are as many words as it takes, which is the number `needed`; else nothing is written
 pub record WritesRemains (kind : ℕ) (r : Remains) (choice : ℕ) (before after : List ℕ) (needed : ℕ) (code : ℤ) : Type 0 where
   pub told : needed ≡ remains_words r
   pub written : ((length before ≡ remains_words r) × (code ≡ pos 0) × AreRemainsWritten kind r choice after)
@@ -62,6 +63,7 @@ abbrev pub ContentImages : {O : Type 0} → ℕ → ℕ → List ℕ → List �
 ContentImages kind choice before after needed code (Closed r) = WritesRemains kind r choice before after needed code
 ContentImages kind choice before after needed code content = (after ≡ before) × (needed ≡ 0) × (code ≡ pos 6)
 
+-- the image of what C has of a store, of a queue, or of a program's object
 abbrev pub Images : AnyHandleState → ℕ → List ℕ → List ℕ → ℕ → ℤ → Type 0
 Images content choice before after needed code =
     OfAny (ContentImages 1 choice before after needed code) (ContentImages 2 choice before after needed code)

@@ -35,6 +35,7 @@ abbrev pub open_code : OpenFault → ℤ
 open_code (Start fault) = pos 8
 open_code InTheWay = pos 2
 
+-- the numbers of `open_code`: NO_MEMORY and AGAIN
 abbrev pub IsOpenCode : ℤ → Type 0
 IsOpenCode code = (code ≡ pos 8) ⊎ (code ≡ pos 2)
 
@@ -47,6 +48,7 @@ image_code (Version found) = pos 17
 image_code (Place root region) = pos 18
 image_code Body = pos 19
 
+-- the number of why nothing is taken up from words
 abbrev pub fault_code : WordsFault → ℤ
 fault_code Head = pos 13
 fault_code (Kind found) = pos 14

@@ -65,18 +65,20 @@ pub record LeavesContentCallable {O : Type 0} (o : Ghosts O) (replies : ReplyKin
   pub callable : IsContentCallable o replies after
   pub done : Done
 
--- the same of a content of any object
+-- a call of what C has, of any object, leaves what C may call, and this was done
 pub record LeavesCallable (after : AnyHandleState) (Done : Type 0) : Type 0 where
   pub callable : IsCallable after
   pub done : Done
 
--- a session of a store, of a queue, or of a program's object, as C has it
+-- a session of a document store, as C has it
 abbrev pub store_session : SessionOf DocStore → AnyHandleState
 store_session session = Documents (Session session)
 
+-- a session of a queue, as C has it
 abbrev pub queue_session : SessionOf Fifo → AnyHandleState
 queue_session session = Queue (Session session)
 
+-- a session of a program's object, as C has it
 abbrev pub program_session : SessionOf ProgramObject → AnyHandleState
 program_session session = Program (Session session)
 
@@ -134,6 +136,7 @@ ContentCalls o op tries called reply (Session before) (Session after) = CallsIn 
 ContentCalls o op tries called reply (Session before) after = ⊥
 ContentCalls o op tries called reply before after = IsNoTurn before called after
 
+-- a call of this operation on what C has, of any object, in this many tries, had this result
 abbrev pub CallHasResult : List ℕ → ℕ → AnyHandleState → Called → AnyHandleState → List ℕ → Type 0
 CallHasResult op tries before called after reply =
     OfBoth (ContentCalls store_ghosts op tries called reply) (ContentCalls queue_ghosts op tries called reply)
@@ -145,6 +148,7 @@ ContentFinishes tries called reply (Session before) (Session after) = FinishesIn
 ContentFinishes tries called reply (Session before) after = ⊥
 ContentFinishes tries called reply before after = IsNoTurn before called after
 
+-- finishing the linked entry of what C has, of any object, in this many attempts, had this result
 abbrev pub FinishesSession : ℕ → AnyHandleState → Called → AnyHandleState → List ℕ → Type 0
 FinishesSession tries before called after reply =
     OfBoth (ContentFinishes tries called reply) (ContentFinishes tries called reply) (ContentFinishes tries called reply) before after

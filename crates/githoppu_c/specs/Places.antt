@@ -15,19 +15,21 @@ sight_code (Behind found) = pos 23
 sight_code Stopped = pos 5
 sight_code OutOfTurn = pos 6
 
--- the place of a session is told, and of what is no session 0, out of turn
+-- the answer has the place of a session; what is no session answers 0, out of turn
 abbrev pub ContentTellsPlace : {O : Type 0} → ℕ → ℤ → HandleState O → Type 0
 ContentTellsPlace place code (Session session) = (place ≡ session.place) × (code ≡ pos 0)
 ContentTellsPlace place code content = (place ≡ 0) × (code ≡ pos 6)
 
+-- the answer has the place of what C has, of any object
 abbrev pub TellsPlace : AnyHandleState → ℕ → ℤ → Type 0
 TellsPlace content place code = OfAny (ContentTellsPlace place code) (ContentTellsPlace place code) (ContentTellsPlace place code) content
 
--- a session that has this place, or there is none
+-- the content is a session of this place; or it is no session, and there is no place
 abbrev pub ContentMayHavePlace : {O : Type 0} → HandleState O → Option ℕ → Type 0
 ContentMayHavePlace content (Some place) = ContentTellsPlace place (pos 0) content
 ContentMayHavePlace content None = ContentTellsPlace 0 (pos 6) content
 
+-- what C has, of any object, is a session of this place; or it is no session, and there is no place
 abbrev pub MayHavePlace : AnyHandleState → Option ℕ → Type 0
 MayHavePlace content (Some place) = TellsPlace content place (pos 0)
 MayHavePlace content None = TellsPlace content 0 (pos 6)
@@ -38,6 +40,7 @@ ContentSees place sight (Session before) (Session after) = SeesIn place before s
 ContentSees place sight (Session before) after = ⊥
 ContentSees place sight before after = (sight ≡ OutOfTurn) × (after ≡ before)
 
+-- catching up with a place had this result, for what C has of any object
 abbrev pub ContentCatchesUp : ℕ → AnyHandleState → SessionCatchUp → AnyHandleState → Type 0
 ContentCatchesUp place before sight after = OfBoth (ContentSees place sight) (ContentSees place sight) (ContentSees place sight) before after
 

@@ -59,19 +59,20 @@ abbrev pub refusal_code : FaultKind → ℤ
 refusal_code fault_kind.Memory = pos 8
 refusal_code kind = pos 25
 
--- the first fault of words: 0 and 0 where there is none, and else its number and that of the instruction. Where memory ran out nothing is told.
+-- the first fault of words, by its number and the number of the instruction at fault
 pub record TellsFirstFault (words : List ℕ) (instructions number at : ℕ) : Type 0 where
   pub fault : ProgramFault
   pub first : IsFirstProgramFault words instructions fault
   pub number_is : program_fault_number fault.kind ≡ Some number
   pub at_is : at ≡ fault.at
 
+-- What is written of why words are no program: 0 and 0 where they are one, else their first fault. Where memory ran out nothing is written.
 abbrev pub TellsFault : List ℕ → ℕ → ℕ → ℕ → ℕ → ℕ → ℤ → Type 0
 TellsFault words instructions number_before number at_before at code =
     (IsProgram words instructions × (number ≡ 0) × (at ≡ 0) × (code ≡ pos 0))
     ⊎ ((TellsFirstFault words instructions number at × (code ≡ pos 25)) ⊎ ((number ≡ number_before) × (at ≡ at_before) × (code ≡ pos 8)))
 
--- the fingerprint of a program is told, or what was there is left
+-- the fingerprint of a program is written, or what was there is left
 abbrev pub TellsFingerprint : List ℕ → ℕ → ℕ → ℕ → ℕ → ℤ → Type 0
 TellsFingerprint words instructions fuel before after code =
     (IsFuel fuel × IsProgram words instructions × (after ≡ fingerprint words instructions fuel) × (code ≡ pos 0))
@@ -81,12 +82,14 @@ TellsFingerprint words instructions fuel before after code =
 abbrev pub MayOpenProgram : ℕ → ℕ → ℕ → Type 0
 MayOpenProgram fuel lines count = MayOpen lines count × IsFuel fuel
 
--- why it is not: the sizes are wrong; they are right, and the words are no program, or memory ran out, or the sessions' new queue did not take its first entry
+-- why no program is opened: the sizes are wrong; or they are right, and the words are no program, or memory ran out, or the sessions' new queue did not
+-- take its first entry
 abbrev pub RefusesProgramOpening : List ℕ → ℕ → ℕ → ℕ → ℕ → ℤ → Type 0
 RefusesProgramOpening words instructions fuel lines count code =
     ((¬ MayOpenProgram fuel lines count) × (code ≡ pos 7))
     ⊎ (MayOpenProgram fuel lines count × (RefusesProgram words instructions code ⊎ (IsProgram words instructions × IsOpenCode code)))
 
+-- the answer to the opening of a program's object: 0 where it may be opened and the words are a program, else the number of why it is not
 abbrev pub AnswersProgramOpening : List ℕ → ℕ → ℕ → ℕ → ℕ → ℤ → Type 0
 AnswersProgramOpening words instructions fuel lines count code =
     (MayOpenProgram fuel lines count × IsProgram words instructions × (code ≡ pos 0)) ⊎ RefusesProgramOpening words instructions fuel lines count code
@@ -101,12 +104,13 @@ pub record AreProgramsOpened (words : List ℕ) (instructions fuel lines count :
 abbrev pub before_of : ℕ → ℕ → Option ℕ
 before_of before version = if before == 0 || before == version then None else Some before
 
--- what is taken up from an image by this program, which spells these instructions, and why nothing is
+-- what is taken up from an image by this program, which spells these instructions
 abbrev pub IsTakenByProgram : List Instruction → List ℕ → ℕ → ℕ → ℕ → List ℕ → Base → Type 0
 IsTakenByProgram decoded words instructions fuel before image =
     let version = fingerprint words instructions fuel in
     IsProgramIn version (λ lines. old_of decoded words lines fuel version (before_of before version)) image
 
+-- why nothing is taken up from an image by this program, which spells these instructions
 abbrev pub IsFaultByProgram : List Instruction → List ℕ → ℕ → ℕ → ℕ → List ℕ → WordsFault → Type 0
 IsFaultByProgram decoded words instructions fuel before image =
     let version = fingerprint words instructions fuel in
@@ -124,7 +128,7 @@ abbrev pub RefusesProgramRecovery : List ℕ → ℕ → ℕ → ℕ → List �
 RefusesProgramRecovery words instructions fuel before image count =
     AfterProgram words instructions fuel count (λ decoded. RefusesWords 3 (IsFaultByProgram decoded words instructions fuel before image) image count)
 
--- boxes of sessions of one service of the object of this program, which opens from a base that the image says
+-- boxes of sessions of one service of the object of this program, which opens from a base that is in the image
 pub record AreProgramsRecovered (words : List ℕ) (instructions fuel before : ℕ) (image : List ℕ) (count : ℕ) (boxes : List (Box AnyHandleState Global))
     : Type 0 where
   pub is : IsProgram words instructions
