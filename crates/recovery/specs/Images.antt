@@ -1,4 +1,4 @@
--- What an image says: the words of all replicas, one after another, by pairs of an address and a value.
+-- The words of an image: those of all replicas, one after another, by pairs of an address and a value.
 use Rattle.std.specs.Prelude.{◌≡◌, ◌+◌, ◌*◌, ◌<◌, ◌≤◌, ◌==◌, ℕ, All, List, [], ◌∷◌, map, if◌then◌else◌}
 use Rattle.std.specs.List.{range_with_len}
 use Rattle.cx_base.specs.Codes.{root_replica_of}

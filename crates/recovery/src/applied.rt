@@ -1,12 +1,12 @@
-//! What is said of a caller's last entry.
+//! The outcome of a caller's last entry.
 
 use cx_base::OpWords;
 
-/// What a base says of a caller's last entry.
+/// The outcome of a caller's last entry that a base has.
 #[derive(Clone, Debug, PartialEq, Eq, Drop)]
 pub enum Outcome {
     /// No entry of the caller's was applied.
     Never,
-    /// The last one that was: its number among the caller's entries of all lives so far, and the reply to it.
+    /// The caller's last entry that was applied: its number among the caller's entries of all lives so far, and the reply to it.
     Applied { number: u64, reply: OpWords },
 }

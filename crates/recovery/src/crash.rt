@@ -36,7 +36,7 @@ pub fn crash_image(alloc: Global, remains: &Remains, choice: u64) -> Result<Imag
     })
 }
 
-/// The root that is left.
+/// The root code that a crash leaves by `choice`: the one at `choice` modulo their number, of those published from the durable one on.
 fn root_left(remains: &Remains, choice: u64) -> u64
     requires { 1 ≤ length remains.now.published.items }
     ensures { result ≡ left_root remains.now choice }
@@ -45,7 +45,7 @@ fn root_left(remains: &Remains, choice: u64) -> u64
     remains.published[at as usize]
 }
 
-/// What is left of a word.
+/// What a crash leaves of the word at address `at`: its durable value, and of a dirty word what `lost_word` gives.
 fn word_left(remains: &Remains, choice: u64, at: usize) -> u64
     requires whole { AreRemainsWhole remains.now }
     requires at { at < image_size remains.now.callers remains.now.lines }
@@ -58,7 +58,7 @@ fn word_left(remains: &Remains, choice: u64, at: usize) -> u64
     lost_word(choice, at as u64, remains.volatile[at], durable)
 }
 
-/// What a crash leaves of a dirty word.
+/// What a crash leaves of a dirty word at address `at`: by choice 0 its durable value, by choice 1 its volatile one, by another a number of its own.
 fn lost_word(choice: u64, at: u64, volatile: u64, durable: u64) -> u64
     requires { at < 2 ^ 63 }
     ensures { result ≡ any_value choice at (record { value = volatile; durable = durable; mark = Dirty }) }

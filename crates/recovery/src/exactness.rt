@@ -1,4 +1,4 @@
-//! That recovery answers exactly what the checks of an image say.
+//! The law that recovery refuses an image exactly where a check fails.
 
 ghost use Rattle.std.specs.Prelude.{◌≢◌, Err, MatchResult};
 ghost use Rattle.recovery.specs.Recovery.{IsExactly, IsFaultOf, IsRecovered};
@@ -7,7 +7,7 @@ ghost use Rattle.recovery.specs.declared.recovered_base.ImageFault.TheVariants.{
 use cx_base::Object;
 
 /// The law that `recover` gives each refusal where its check is the first that an image does not pass, and accepts each image that passes
-/// all, unless memory runs out. By what it ensures it does so only there.
+/// all checks, unless memory runs out. That it gives a refusal only there, and accepts no other image, stands in the contract of `recover`.
 pub fn recovering_is_exact<O: Object>()
     ensures { (object : O) (image : _) (answer : _) →
         MatchResult answer

@@ -1,5 +1,5 @@
-//! What a crash leaves of a lawful state recovers, and so does what it leaves of a closed table, which is a crash image of the
-//! state that was closed. Each law is the contract of a function that does nothing.
+//! The laws that recovery takes up what a crash leaves of a lawful state, and what a crash leaves of a closed table, which is a crash image of the state
+//! in which the table was closed. Each law is the contract of a function that does nothing.
 
 ghost use Rattle.std.specs.Prelude.{◌≡◌, ◌↔◌, ℕ, List, MatchResult};
 ghost use Rattle.cx_base.specs.OldFormat.{no_old_format};
@@ -18,9 +18,8 @@ ghost use Rattle.recovery.specs.declared.recovered_base.ImageFault.TheVariants.{
 
 use cx_base::Object;
 
-/// Whatever a crash leaves of a lawful state, recovery answers no refusal: with any code of the chain as root, and any number
-/// for each word that is dirty. What it gives is the full image of the history after the root's place, at or above DUR's and each
-/// answer's.
+/// The law that recovery refuses nothing that a crash leaves of a lawful state, with any code of the chain as root and any number for each dirty word,
+/// unless memory runs out. What recovery gives is the full image of the history after the root's place, which is at or above DUR's place and each answer's.
 pub fn crash_images_are_accepted<O: Object>()
     ensures { (object : O) (callers : ℕ) (base : _) (s : State) (image : _) (answer : _) →
         let instance : Instance = record { callers = callers; base = base; step = O.step object; reads = O.only_reads object } in
@@ -32,7 +31,7 @@ pub fn crash_images_are_accepted<O: Object>()
         MatchResult answer (IsKeptAt (O.line_count object) (O.lawful object) instance law.history s image.root) (λ fault. fault ≡ Memory) }
 {}
 
-/// An image that has the words of all replicas, and whose root names a lawful base, is refused by no check, and what is recovered is that base.
+/// The law that an image with the words of all replicas, whose root names a lawful base, is refused by no check, and that this base is recovered from it.
 pub fn lawful_bases_are_accepted<O: Object>()
     ensures { (object : O) (image : _) (answer : _) → HasSize image → LawfulBase (O.line_count object) (O.lawful object) (named_base image) →
         MatchResult answer
@@ -41,7 +40,7 @@ pub fn lawful_bases_are_accepted<O: Object>()
         MatchResult answer (λ base. base ≡ named_base image) (λ fault. fault ≡ Memory) }
 {}
 
-/// A closed table leaves all that a crash image is made of, and what is left of it may be read for its object.
+/// The law that a closed table leaves all that a crash image is made of, and that its image by each choice may be read for its object.
 pub fn closed_tables_are_whole<O: Object>()
     ensures whole { (table : Running O) (seats : List Seated) (r : _) → IsOpened O.line_count O.lawful table →
         ClosingWitness table (instance_at table O.step O.only_reads) seats r → AreRemainsWhole r }
@@ -50,14 +49,15 @@ pub fn closed_tables_are_whole<O: Object>()
         IsReadable (O.line_count table.object) image }
 {}
 
-/// What is left of it by each choice is a crash image of the state that was closed.
+/// The law that the image of a closed table by each choice is a crash image of the state in which the table was closed.
 pub fn crash_images_are_left<O: Object>()
     ensures { (table : Running O) (seats : List Seated) (r : _) (choice : ℕ) (image : _) → IsOpened O.line_count O.lawful table →
         (leaves : ClosingWitness table (instance_at table O.step O.only_reads) seats r) → IsLeftOf r choice image →
         IsCrashImage (instance_at table O.step O.only_reads) (record { words = leaves.words; locals = leaves.whole }) (crash_of image) }
 {}
 
-/// Of a closed table's image recovery answers no refusal, and what it gives holds each answer: it is the full image of the history after the root's place.
+/// The law that recovery refuses no image of a closed table, unless memory runs out, and that what it gives holds each answer: it is the full image of the
+/// history after the root's place.
 pub fn closed_tables_recover<O: Object>()
     ensures { (table : Running O) (seats : List Seated) (r : _) (choice : ℕ) (image : _) (answer : _) →
         IsOpened O.line_count O.lawful table → ClosingWitness table (instance_at table O.step O.only_reads) seats r → IsLeftOf r choice image →
@@ -67,7 +67,7 @@ pub fn closed_tables_recover<O: Object>()
         MatchResult answer (IsKeptBy O.line_count O.lawful O.step table seats r choice) (λ fault. fault ≡ Memory) }
 {}
 
-/// What is left is of the object's own version: it is recovered as it is, as by an object that had no other.
+/// The law that the image of a closed table has the object's own version: it is recovered without an upgrade, as by an object that has no old version.
 pub fn closed_tables_stay<O: Object>()
     ensures { (table : Running O) (seats : List Seated) (r : _) (choice : ℕ) (image : _) (base : _) →
         IsOpened O.line_count O.lawful table → ClosingWitness table (instance_at table O.step O.only_reads) seats r → IsLeftOf r choice image →

@@ -1,4 +1,4 @@
-//! What became of a caller's last command, as a base says.
+//! What became of a caller's last command, read from a base.
 
 ghost use Rattle.std.specs.Prelude.{◌≡◌, ◌+◌, ◌^◌, ◌<◌, ◌≤◌, ℕ, List, length};
 ghost use Rattle.cx_core.specs.Base.{LawfulBase};
@@ -17,7 +17,7 @@ use crate::region::reply_words;
 use cx_base::{OP_WORDS, Object, OpWords};
 use cx_core::{Base, OBJECT_START, slot_start};
 
-/// What a base says of a caller: whether an entry of its was ever applied, and which was the last, with its reply.
+/// The outcome of a caller's last entry that a base has: its number and its reply, or that no entry of the caller was ever applied.
 pub fn outcome(base: &Base, caller: u32) -> Outcome
     requires caller { caller < 8 }
     requires words { OBJECT_START ≤ length base.now.words }
@@ -32,7 +32,7 @@ pub fn outcome(base: &Base, caller: u32) -> Outcome
     Outcome::Applied { number, reply }
 }
 
-/// The reply in the slot of a caller.
+/// The reply's words in the result slot of a caller, in words that have this slot.
 fn reply_of(words: &[u64], caller: u32) -> OpWords
     requires { HasSlot caller words.now }
     ensures { result ≡ slot_reply caller words.now }
@@ -42,8 +42,8 @@ fn reply_of(words: &[u64], caller: u32) -> OpWords
     reply
 }
 
-/// The law that the full image after each place of a history from a lawful base on tells of each caller its last entry below the
-/// place and the history's reply to it, and what the base tells where it has none.
+/// The law that the full image after each place of a history from a lawful base on holds, for each caller, the number of its last entry below the place
+/// and the history's reply to it, and what the base holds for a caller without an entry there.
 pub fn full_images_tell_outcomes<O: Object>(object: &O, base: &Base)
     requires { LawfulBase (O.line_count object.now) (O.lawful object.now) base.now }
     ensures { (history : List _) (place caller : ℕ) → AreLawful base.now.place history → base.now.place + length history ≤ 2 ^ 40 →
@@ -51,14 +51,16 @@ pub fn full_images_tell_outcomes<O: Object>(object: &O, base: &Base)
         TellsOutcome (O.step object.now) base.now history (record { place = place; words = full_image (O.step object.now) base.now history place }) caller }
 {}
 
-/// The base that is recovered by choice after a crash of a closed table tells each outcome as well.
+/// The law that the base that is recovered after a crash of a closed table, by each choice, holds each caller's outcome as the history has it: its last
+/// entry below the base's place with the reply, and what the table was opened with for a caller without an entry there.
 pub fn kept_bases_tell_outcomes<O: Object>()
     ensures { (table : Running O) (seats : List Seated) (r : _) (choice caller : ℕ) (base : _) → IsOpened O.line_count O.lawful table →
         ClosingWitness table (instance_at table O.step O.only_reads) seats r → IsKeptBy O.line_count O.lawful O.step table seats r choice base →
         caller < 8 → TellsOutcome (O.step table.object) table.base r.trail.history base caller }
 {}
 
-/// Each result in it is the one that the table was opened with, or keeps a reply of the object's step.
+/// The law that each result in the base that is recovered after a crash of a closed table is the one that the table was opened with, or keeps a reply of
+/// the object's step.
 pub fn kept_bases_have_results<O: Object>()
     ensures { (table : Running O) (seats : List Seated) (r : _) (choice : ℕ) (base : _) → IsOpened O.line_count O.lawful table →
         ClosingWitness table (instance_at table O.step O.only_reads) seats r → IsKeptBy O.line_count O.lawful O.step table seats r choice base →

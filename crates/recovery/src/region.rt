@@ -9,7 +9,7 @@ use cx_base::{OP_WORDS, root_replica};
 use cx_core::{HEAD_LINES, Image, LINE_WORDS, OBJECT_START, slot_start};
 use std::alloc::{AllocError, Global};
 
-/// The words of a region whose object has this many lines.
+/// How many words a region has whose object has this many lines.
 pub(crate) fn region_len(lines: u64) -> u64
     requires { lines ≤ 16384 }
     ensures { result ≡ region_words lines }
@@ -17,7 +17,7 @@ pub(crate) fn region_len(lines: u64) -> u64
     LINE_WORDS * (HEAD_LINES + lines)
 }
 
-/// The words of the replicas of this many callers.
+/// How many words the replicas of this many callers have together, two replicas for each caller.
 pub(crate) fn image_len(callers: u32, lines: u64) -> u64
     requires callers { callers ≤ 8 }
     requires lines { lines ≤ 16384 }

@@ -1,4 +1,4 @@
-//! All regions made equal to the root's.
+//! All regions of a medium are made equal to the region that the root names.
 
 ghost use Rattle.std.specs.Prelude.{◌*◌, IfOk};
 ghost use Rattle.recovery.specs.Images.{IsReadable};
