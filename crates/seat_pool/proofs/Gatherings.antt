@@ -82,7 +82,7 @@ pub drained : (v w : LenderPass) → v.parts ≡ all_parts → w ≡ v → Held 
 drained v w parts same ([], long, tells) = subst (λ (u : LenderPass). IsPassWhole u []) (sym same) (tells.whole parts)
 drained v w parts same (x ∷ items, long, tells) = absurd (omega (arith, long))
 
--- the same, said of what a pass knows
+-- where callers gathered are those that a pass holds, they still are where the pass knows the same and the list is the same
 pub as_held : {O : Type 0} (r : Running O) (v w : LenderPass) (xs ys : List Handed) → w ≡ v → ys ≡ xs → Gathers r v.held xs → Gathers r w.held ys
 as_held r v w xs ys same list g = subst (λ (u : LenderPass). Gathers r u.held ys) (sym same) (subst (λ zs. Gathers r v.held zs) (sym list) g)
 

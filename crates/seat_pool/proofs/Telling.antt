@@ -82,7 +82,7 @@ module _ {O : Type 0} (r : Running O) where
         ap (λ l. (given_from v l now).shown) holds ∙ ap (λ l. v.shown ++ l) new,
       )
 
-  -- and may be kept
+  -- a client may keep a caller that is in no call and was answered none since it was taken
   pub idle_kept : (taken now : Seated) → StaysIdle r taken now → Gathers r (taken ∷ []) (Idle now ∷ [])
   idle_kept taken now idle = record {
     of = All-push (IsHandedOf r) [] (Idle now) (All-nil (IsHandedOf r)) idle.caller;

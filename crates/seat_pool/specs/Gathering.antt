@@ -22,6 +22,7 @@ IsHandedOf r (Idle seat) = IsCallerOf r seat
 IsHandedOf r (Linked seat) = IsLinkedOf r seat
 IsHandedOf r (Stopped stopped) = IsStoppedOf r stopped.seat
 
+-- the number of a caller, in whatever state it is
 abbrev pub handed_number : Handed → ℕ
 handed_number g = (seat_of g).known.local.number
 
@@ -40,7 +41,7 @@ if_stopped h (Linked seat) = 0
 if_stopped h (Stopped stopped) = h stopped.seat.known.local.number
 
 -- These are the callers that are held, each once, in whatever state they are now. Each has the answered calls that it had when it was taken, and a
--- stopped one at most one more, which was told to nobody; and it has the reads that it had.
+-- stopped one at most one more, which no pass knows; and it has the reads that it had.
 pub record Gathers {O : Type 0} (r : Running O) (held : List Seated) (gathered : List Handed) : Type 0 where
   pub of : All (IsHandedOf r) gathered
   pub numbers : (h : ℕ → ℕ) → total_weight (λ (g : Handed). h (handed_number g)) gathered ≡ numbers_weigh h held
@@ -71,13 +72,15 @@ pub record IsLentOf {O : Type 0} (r : Running O) (table : TableId) (lent : Lent)
   pub placed : (view lent.pass).placed ≡ []
   pub kept : Gathers r (view lent.pass).held (kept_list lent.kept)
 
--- the weight of the calls that were told to a client, of the reads that it was shown, and of the caller that it keeps
+-- the weight of the answered calls that a client's pass knows of
 abbrev pub lent_told : (AnsweredCall → ℕ) → Lent → ℕ
 lent_told h lent = total_weight h (view lent.pass).told
 
+-- the weight of the reads that a client's pass knows of
 abbrev pub lent_shown : (SeenRead → ℕ) → Lent → ℕ
 lent_shown h lent = total_weight h (view lent.pass).shown
 
+-- the weight of the caller that a client keeps, if it keeps one
 abbrev pub lent_kept : (Handed → ℕ) → Lent → ℕ
 lent_kept f lent = total_weight f (kept_list lent.kept)
 
@@ -127,8 +130,8 @@ pub record IsRestOf {O : Type 0} (r : Running O) (v : LenderPass) (lent : ℕ) :
   pub told : v.told ≡ []
   pub shown : v.shown ≡ []
 
--- The answered calls of the callers are those that were told to clients, each once, and at most one further of each stopped caller. The reads that
--- clients were shown are among theirs. The callers that clients keep are among them, and the others are in no call.
+-- The answered calls of the callers are those that clients' passes know of, each once, and at most one further of each stopped caller. The reads that
+-- these passes know of are among theirs. The callers that clients keep are among them, and the others are in no call.
 pub record AreCallsTold {O : Type 0} (r : Running O) (lents : List Lent) (handed : List Handed) : Type 0 where
   pub of : All (IsHandedOf r) handed
   pub untold : List AnsweredCall

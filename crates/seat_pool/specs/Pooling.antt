@@ -1,4 +1,4 @@
--- The rule of a queue that lends the callers of one service: where each caller is, and to whom its calls were told.
+-- The rule of a queue that lends the callers of one service: where each caller is, and which pass knows of each of its answered calls.
 use Rattle.std.specs.Prelude.{◌≡◌, ◌+◌, ◌-◌, ◌<◌, ◌≤◌, ◌⊎◌, ℕ, List, [], ◌∷◌, ◌++◌, All, Option, Some, None, drop, length, slice_get}
 use mathlib.Core.Option.{some}
 use lib.ListN.{get_elem?}
@@ -60,6 +60,7 @@ calls_weigh h xs = total_weight (λ (x : Seated). total_weight h (calls_of x)) x
 abbrev pub reads_weigh : (SeenRead → ℕ) → List Seated → ℕ
 reads_weigh h xs = total_weight (λ (x : Seated). total_weight h x.known.local.seen_reads) xs
 
+-- what a pass knows, by its fields
 abbrev pub hand : Option ServiceView → ℕ → List ℕ → List Seated → List AnsweredCall → List SeenRead → List Returned → LenderPass
 hand home parts placed held told shown returned = record { home = home; parts = parts; placed = placed; held = held; told = told; shown = shown; returned = returned }
 
@@ -75,7 +76,7 @@ nothing = hand None 0 [] [] [] [] []
 abbrev pub fresh : LenderPass
 fresh = hand None all_parts [] [] [] [] []
 
--- it knows the service, once
+-- the first pass of a queue, once it knows which service lends its callers
 abbrev pub opened_pass : ServiceView → LenderPass
 opened_pass home = hand (Some home) all_parts [] [] [] [] []
 
@@ -87,32 +88,35 @@ with_placed v x = hand v.home v.parts (v.placed ++ x.known.local.number ∷ []) 
 abbrev pub with_taken : LenderPass → Seated → LenderPass
 with_taken v x = hand v.home v.parts v.placed (x ∷ v.held) v.told v.shown v.returned
 
--- the first of those held was given back: the calls that it has more are told, the reads that it has more are shown, and both of its states are noted
+-- The first of the callers held was given back: the pass learns of the calls and the reads that the caller has more than when it was taken, and keeps the
+-- caller as it was then and as it is now.
 abbrev pub given_from : LenderPass → List Seated → Seated → LenderPass
 given_from v [] x = v
 given_from v (y ∷ rest) x =
     hand v.home v.parts v.placed rest (v.told ++ drop (length (calls_of y)) (calls_of x)) (v.shown ++ drop (length y.known.local.seen_reads) x.known.local.seen_reads)
     (v.returned ++ record { taken = y; back = x } ∷ [])
 
+-- what a pass knows once it gave this caller back
 abbrev pub with_given : LenderPass → Seated → LenderPass
 with_given v x = given_from v v.held x
 
--- it is a caller of this number and limit, with further calls and reads behind those that it had
+-- `x` has the number and the limit of `y`, and further calls and reads behind those that `y` has
 pub record GoesOnCalling (y x : Seated) : Type 0 where
   pub number : x.known.local.number ≡ y.known.local.number
   pub limit : x.known.local.limit ≡ y.known.local.limit
   pub calls : calls_of x ≡ calls_of y ++ drop (length (calls_of y)) (calls_of x)
   pub reads : x.known.local.seen_reads ≡ y.known.local.seen_reads ++ drop (length y.known.local.seen_reads) x.known.local.seen_reads
 
--- it is the first of those held
+-- `x` goes on from the first of the callers that are held
 abbrev pub IsFirstOf : List Seated → Seated → Type 0
 IsFirstOf [] x = ⊥
 IsFirstOf (y ∷ rest) x = GoesOnCalling y x
 
--- a pass without one part, and a pass with that part alone
+-- a pass that gave one part away
 abbrev pub cut_left : LenderPass → LenderPass
 cut_left v = hand v.home (v.parts - 1) v.placed v.held v.told v.shown v.returned
 
+-- a pass with one part, cut off another: it knows the service, and has done nothing
 abbrev pub cut_right : LenderPass → LenderPass
 cut_right v = hand v.home 1 [] [] [] [] []
 
@@ -120,17 +124,19 @@ cut_right v = hand v.home 1 [] [] [] [] []
 abbrev pub both : LenderPass → LenderPass → LenderPass
 both v w = hand v.home (v.parts + w.parts) (v.placed ++ w.placed) (v.held ++ w.held) (v.told ++ w.told) (v.shown ++ w.shown) (v.returned ++ w.returned)
 
--- it knows this service, or it has no part
+-- a pass knows this service, or it has no part
 abbrev pub FitsHome : Shown → ℕ → Option ServiceView → Type 0
 FitsHome r parts None = parts ≡ 0
 FitsHome r parts (Some home) = shown_by home ≡ r
 
+-- a pass has placed no caller, holds none, and knows of no call and no read
 pub record IsPassIdle (v : LenderPass) : Type 0 where
   pub placed : v.placed ≡ []
   pub held : v.held ≡ []
   pub told : v.told ≡ []
   pub shown : v.shown ≡ []
 
+-- a pass knows this service, or it has no part and has done nothing
 pub record FitsHand (r : Shown) (v : LenderPass) : Type 0 where
   pub home : FitsHome r v.parts v.home
   pub idle : v.parts ≡ 0 → IsPassIdle v
@@ -167,7 +173,7 @@ abbrev pub limits_at : Option ServiceView → List ℕ
 limits_at None = []
 limits_at (Some home) = home.limits
 
--- it is a caller of the service that the pass knows
+-- `x` is a caller of the service that the pass knows
 abbrev pub IsCallerAt : Option ServiceView → Seated → Type 0
 IsCallerAt None x = ⊥
 IsCallerAt (Some home) x = IsLentBy (shown_by home) x
@@ -197,7 +203,7 @@ pub record IsPassOpened {O : Type 0} (r : Running O) (limits : List ℕ) (v : Le
   pub told : v.told ≡ []
   pub shown : v.shown ≡ []
 
--- the calls that a pass was told, once it gave this caller back
+-- the calls that a pass knows of, once it gave this caller back
 abbrev pub hand_told : LenderPass → Seated → List AnsweredCall
 hand_told v x = (with_given v x).told
 
