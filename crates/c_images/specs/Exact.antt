@@ -1,4 +1,4 @@
--- What is answered for words, by the image that they say.
+-- The answer to words, by the image in them.
 use Rattle.std.specs.Prelude.{◌≡◌, ◌≢◌, ℕ, List, Result, Ok, Err}
 use Rattle.cx_base.specs.OldFormat.{OldFormat}
 use Rattle.cx_core.specs.declared.entry.Base.{Base}
@@ -10,8 +10,8 @@ use Rattle.c_images.specs.Words.{SaysImage}
 use Rattle.c_images.specs.declared.reader.WordsFault.{WordsFault}
 use Rattle.c_images.specs.declared.reader.WordsFault.TheVariants.{Image as ImageRefused, Numbers}
 
--- Whatever image words say, the first check that it does not pass is answered by its refusal. Where it passes all, a number above the place is refused, and
--- else the answer is the base.
+-- The answer to words is the refusal of the first check that the image in them does not pass. Where the image passes all checks, a number above its place
+-- is refused, and where there is none the answer is the base.
 pub record AreAnsweredExactly (version : ℕ) (lawful : List ℕ → Type 0) (old : OldFormat) (words : List ℕ) (answer : Result Base WordsFault) : Type 0 where
   pub refused : (image : Image) (fault : ImageFault) → SaysImage words image → IsFaultOf version lawful old image fault → fault ≢ Memory → answer ≡ Err (ImageRefused fault)
   pub above : (image : Image) → SaysImage words image → IsAccepted version lawful old image → ¬ NumbersWithin (recovered_from old image) → answer ≡ Err Numbers

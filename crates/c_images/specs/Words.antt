@@ -80,7 +80,7 @@ IsHeadFault kind words fault = ⊥
 abbrev pub word_from : ℕ → List ℕ → ℕ → ℕ
 word_from start words at = if nat_lt at start then 0 else slice_index words (at - start + 8)
 
--- words of format 1 say the words of all replicas
+-- the image in words of format 1, which have the words of all replicas
 pub record SaysReplicas (words : List ℕ) (image : Image) : Type 0 where
   pub count : length words ≡ image.count + 8
   pub pairs : Gives (λ at. slice_index words (at + 8)) image.count image.pairs
@@ -91,7 +91,7 @@ pub record SaysRegion (words : List ℕ) (image : Image) : Type 0 where
   pub count : image.count ≡ length words - 8 + region_words image.lines * (2 * image.callers - 1)
   pub region : HasSize image → region_of image ≡ drop 8 words
 
--- the image that words say: the numbers of the head, and the words after it, by the format
+-- the image in words: it has the numbers of the head, and the words after the head, by the format
 pub record SaysImage (words : List ℕ) (image : Image) : Type 0 where
   pub callers : image.callers ≡ callers_in words
   pub lines : image.lines ≡ lines_in words
@@ -125,7 +125,7 @@ pub record AreRemainsWritten (kind : ℕ) (r : Remains) (choice : ℕ) (words : 
   pub left : AreLeftWords r choice (image_size r.callers r.lines) (image_size r.callers r.lines) words
 
 -- The base that is taken up from words, for an object with this version, these lawful images and this old format: the one that recovery gives for the image
--- that they say. No number of its results is above its place.
+-- in the words. No number of its results is above its place.
 pub record IsTakenUp (version : ℕ) (lawful : List ℕ → Type 0) (old : OldFormat) (words : List ℕ) (base : Base) : Type 0 where
   pub image : Image
   pub says : SaysImage words image

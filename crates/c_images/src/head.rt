@@ -14,7 +14,7 @@ pub(crate) const REPLICAS: u64 = 1;
 /// The format of an image of one region.
 pub(crate) const ONE_REGION: u64 = 2;
 
-/// What the head says: the format, the callers of the service that the image is of, the lines of its object, and the root.
+/// The head of an image in words: its format, the callers of the service that the image is of, the lines of the service's object, and the root code.
 #[derive(Clone, Copy, Debug, Drop)]
 pub struct Head {
     pub format: u64,
@@ -23,8 +23,8 @@ pub struct Head {
     pub root: u64,
 }
 
-/// The head of words that say an image of an object of this kind. `Err` says that the words begin with no head, or with the head of an
-/// object of another kind, which is named.
+/// The head of the words of an image of an object of this kind. `Err` is `Head` where the words begin with no head, and `Kind` where they begin with the
+/// head of an object of another kind, which it names.
 pub fn head_of(words: &[u64], kind: u64) -> Result<Head, WordsFault>
     ensures { MatchResult result (IsHeadOf kind words.now) (IsHeadFault kind words.now) }
 {
@@ -58,14 +58,14 @@ fn is_headed(words: &[u64]) -> bool
         && words[4] <= 16384
 }
 
-/// Whether this is the number of a kind of objects.
+/// Whether this is the number of a kind of objects: 1 is a document store, 2 a queue, 3 the object of a program.
 fn is_kind(kind: u64) -> bool
     ensures { IsTrue result ↔ IsKind kind }
 {
     kind == 1 || kind == 2 || kind == 3
 }
 
-/// Whether this is a format.
+/// Whether this is the number of a format: 1 has the words of all replicas, 2 those of one region.
 fn is_format(format: u64) -> bool
     ensures { IsTrue result ↔ IsFormat format }
 {

@@ -1,4 +1,5 @@
-//! That what is written and what is taken is taken up, and keeps replies; and that words are answered exactly.
+//! Laws on images in words: that `base_of` takes up what was written of a closed service or taken of a running one, that such images keep replies, and
+//! that `base_of` answers any words exactly by its checks. Each law is the contract of a function that does nothing else.
 
 ghost use Rattle.std.specs.Prelude.{◌≡◌, ◌≢◌, ◌<◌, ℕ, All, Err, List, MatchResult, Some, slice_get};
 ghost use Rattle.cx_core.specs.Base.{LawfulBase};
@@ -33,19 +34,23 @@ pub fn written_images_are_taken_up<O: Object>()
         (IsWordsFault (O.version_number table.object) (O.lawful table.object) (O.old_format table.object) words) →
         MatchResult answer (IsKeptBy O.line_count O.lawful O.step table seats r choice) (λ fault. fault ≡ Image Memory) }
 {
+    // a closed service leaves all that a crash image is made of, and each image of it may be read for the object
     closed_tables_are_whole::<O>();
+    // recovery refuses no such image, unless memory runs out, and what it gives holds each answer
     closed_tables_recover::<O>();
 }
 
-/// What is taken up of words that `write_image` wrote of a closed service says of each caller the number of its last entry below the root's place and the
-/// history's reply to it, and of a caller that has none there what the service was opened with.
+/// The law that a base that is taken up of words that `write_image` wrote of a closed service holds, for each caller, the number of its last entry below the
+/// root's place and the history's reply to it, and for a caller without an entry there what the service was opened with.
 pub fn written_images_tell_outcomes<O: Object>()
     ensures { (table : Running O) (seats : List Seated) (r : _) (kind choice caller : ℕ) (words : List ℕ) (base : _) →
         IsOpened O.line_count O.lawful table → ClosingWitness table (instance_at table O.step O.only_reads) seats r → AreRemainsWritten kind r choice words →
         IsTakenUp (O.version_number table.object) (O.lawful table.object) (O.old_format table.object) words base → caller < 8 →
         TellsOutcome (O.step table.object) table.base r.trail.history base caller }
 {
+    // what is taken up of the words is the base that is recovered after a crash of the closed service
     written_images_are_taken_up::<O>();
+    // that base has each caller's last entry and its reply
     kept_bases_tell_outcomes::<O>();
 }
 
@@ -58,7 +63,9 @@ pub fn written_images_keep_replies<O: Object>()
         IsTakenUp (O.version_number table.object) (O.lawful table.object) (O.old_format table.object) words base →
         RepliesGoOn (IsReplyOfKind replies) (O.lawful table.object) (O.step table.object) table.base.words base.words }
 {
+    // what is taken up of the words is the base that is recovered after a crash of the closed service
     written_images_are_taken_up::<O>();
+    // each result in that base is one that the service was opened with, or keeps a reply of the object's step
     kept_bases_have_results::<O>();
 }
 
@@ -74,22 +81,24 @@ pub fn taken_images_are_taken_up<O: Object>()
         (IsWordsFault (O.version_number table.object) (O.lawful table.object) (O.old_format table.object) words) →
         MatchResult answer (λ base. base ≡ base_at place region) (λ fault. fault ≡ Image Memory) }
 {
+    // an image whose root names a lawful base is refused by no check, and that base is recovered
     lawful_bases_are_accepted::<O>();
 }
 
 /// The images that callers took of a service keep replies of a kind where the service was opened with such replies and its object's step answers by none but
-/// those. It is known once the service is closed.
+/// those. This is known once the service is closed.
 pub fn taken_images_keep_replies<O: Object>()
     ensures { (replies : ReplyKind) (table : Running O) (seats : List Seated) (r : _) → IsOpened O.line_count O.lawful table →
         ClosingWitness table (instance_at table O.step O.only_reads) seats r →
         All (λ (s : Seated). (i : ℕ) (region : List ℕ) → slice_get s.known.images i ≡ Some region →
         RepliesGoOn (IsReplyOfKind replies) (O.lawful table.object) (O.step table.object) table.base.words region) seats }
 {
+    // each image that a caller took is a base of the history that the service was closed with
     base_of_checkpoint::<O>();
 }
 
-/// Whatever image words of either format say, `base_of` answers by its checks, unless memory runs out: with the refusal of the first check that it does not
-/// pass; or that a number of its results is above its place; or else with the base.
+/// The law that `base_of` answers image words of either format exactly by its checks, unless memory runs out: with the refusal of the first check that the
+/// image does not pass; where it passes all, with `Numbers` if a number of its results is above its place; and with the base if none is.
 pub fn words_are_answered_exactly<O: Object>()
     ensures { (object : O) (words : List ℕ) (answer : _) → IsHeaded words →
         MatchResult answer
@@ -97,5 +106,6 @@ pub fn words_are_answered_exactly<O: Object>()
         (IsWordsFault (O.version_number object) (O.lawful object) (O.old_format object) words) →
         answer ≢ Err (Image Memory) → AreAnsweredExactly (O.version_number object) (O.lawful object) (O.old_format object) words answer }
 {
+    // recovery refuses an image exactly where a check fails, unless memory runs out
     recovering_is_exact::<O>();
 }

@@ -18,7 +18,7 @@ use std::alloc::{AllocError, Global};
 /// Why nothing is taken up from words.
 #[derive(Clone, Copy, Debug, PartialEq, Eq, Drop)]
 pub enum WordsFault {
-    /// They do not begin with the head of an image.
+    /// The words do not begin with the head of an image.
     Head,
     /// They are of another kind of object: of this one.
     Kind { found: u64 },
@@ -28,8 +28,8 @@ pub enum WordsFault {
     Numbers,
 }
 
-/// The base from which a service of an object of the head's lines may start, as words with this head say it. A refusal names the first check that
-/// they do not pass.
+/// The base in words with this head, from which a service of an object of the head's lines may start. A refusal names the first check that the words do
+/// not pass.
 pub fn base_of<O: Object>(
     alloc: Global,
     object: &O,
@@ -52,7 +52,7 @@ pub fn base_of<O: Object>(
     }
 }
 
-/// The image that words say.
+/// The image in words with this head, in whichever format they are.
 fn image_of(alloc: Global, words: &[u64], head: Head) -> Result<Image, AllocError>
     requires { IsSaid words.now head }
     ensures { IfOk result (SaysReadable words.now head.lines) }
@@ -64,7 +64,7 @@ fn image_of(alloc: Global, words: &[u64], head: Head) -> Result<Image, AllocErro
     }
 }
 
-/// The image that words of format 1 say: the words of all replicas.
+/// The image in words of format 1, which has the words of all replicas.
 fn replicas_image(alloc: Global, words: &[u64], head: Head) -> Result<Image, AllocError>
     requires said { IsSaid words.now head }
     requires format { format_in words.now ≡ 1 }
@@ -80,7 +80,7 @@ fn replicas_image(alloc: Global, words: &[u64], head: Head) -> Result<Image, All
     })
 }
 
-/// The image that words of format 2 say: the words of the replica that the root names. Recovery looks at no other, so pairs for the others take no memory.
+/// The image in words of format 2, with the words of the replica that the root names. Recovery looks at no other, so pairs for the others take no memory.
 fn region_image(alloc: Global, words: &[u64], head: Head) -> Result<Image, AllocError>
     requires said { IsSaid words.now head }
     requires format { format_in words.now ≡ 2 }

@@ -29,7 +29,7 @@ use Rattle.c_sessions.specs.declared.session.Session.{Session}
 use Rattle.c_sessions.specs.declared.checkpoint.SessionCheckpoint.{SessionCheckpoint}
 use Rattle.c_sessions.specs.declared.checkpoint.SessionCheckpoint.TheVariants.{At, Again as TakenAgain, Stopped as TakenStopped, OutOfTurn as TakenOutOfTurn}
 
--- nothing is below 0
+-- a caller in whichever state has seen place 0
 pub none_seen : {O : Type 0} (r : Running O) (handed : Handed) → HasSeenPlace r 0 handed
 none_seen r (Idle caller) = record { front = omega arith; read = inl (omega arith) }
 none_seen r (Linked linked) = λ ticket at. omega arith

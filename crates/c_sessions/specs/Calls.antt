@@ -15,12 +15,12 @@ use Rattle.seat_pool.specs.Gathering.{IsHandedOf}
 use Rattle.c_sessions.specs.declared.steps.Called.{Called}
 use Rattle.c_sessions.specs.declared.steps.Called.TheVariants.{Done, Pending, Again, Full, Worn, Stopped as CalledStopped, OutOfTurn}
 
--- what a call gives back stands of a caller of this service, and this was done
+-- a call gives back a caller of this service, in whichever state, and this was done
 pub record HandsBack {O : Type 0} (r : Running O) (handed : Handed) (Done : Type 0) : Type 0 where
   pub of : IsHandedOf r handed
   pub done : Done
 
--- the place that a session tells after a call, which told this one before
+-- the session's place after a call: the answer's place where the call is done, and `before` where it is not
 abbrev pub place_after : Called → ℕ → ℕ
 place_after (Done place) before = place
 place_after called before = before

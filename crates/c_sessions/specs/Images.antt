@@ -10,7 +10,7 @@ use Rattle.cx_service.specs.declared.close.Handed.TheVariants.{Idle, Stopped}
 use Rattle.c_sessions.specs.declared.checkpoint.SessionCheckpoint.{SessionCheckpoint}
 use Rattle.c_sessions.specs.declared.checkpoint.SessionCheckpoint.TheVariants.{At, Again, Stopped as TakenStopped, OutOfTurn}
 
--- the place that a session tells that was to take an image, and told this one before
+-- the session's place after it was to take an image: the image's place, and `before` where none was taken
 abbrev pub place_taken : SessionCheckpoint → ℕ → ℕ
 place_taken (At place) before = place
 place_taken taken before = before

@@ -9,13 +9,13 @@ use Rattle.cx_service.specs.declared.close.Handed.TheVariants.{Idle, Linked, Sto
 use Rattle.c_sessions.specs.declared.catch_up.SessionCatchUp.{SessionCatchUp}
 use Rattle.c_sessions.specs.declared.catch_up.SessionCatchUp.TheVariants.{Caught, Behind, Stopped as SightStopped, OutOfTurn}
 
--- What stands of a caller has seen a place: it is answered nothing below it. A stopped caller makes no further call.
+-- A caller in whichever state has seen a place: it is answered nothing below the place. A stopped caller makes no further call.
 abbrev pub HasSeenPlace : {O : Type 0} → Running O → ℕ → Handed → Type 0
 HasSeenPlace r place (Idle caller) = HasSeen r.callers place caller.known.local
 HasSeenPlace r place (Linked linked) = (ticket : ℕ) → unanswered_ticket linked.known.local ≡ Some ticket → place ≤ ticket
 HasSeenPlace r place (Stopped stopped) = Unit {0}
 
--- the place that a session tells that was to see one, and told this one before
+-- the session's place after it was to see one: the greater of `before` and the place where it caught up, and `before` where it did not
 abbrev pub place_seen : SessionCatchUp → ℕ → ℕ → ℕ
 place_seen Caught place before = max before place
 place_seen sight place before = before

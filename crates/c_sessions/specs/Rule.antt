@@ -32,7 +32,7 @@ knows home due given taken = record { offered = None; home = home; due = due; gi
 abbrev pub new_pass : {O : Type 0} → Knows O
 new_pass = knows None [] [] []
 
--- the pass that put a share of this service into it
+-- the first pass once it put a share of this service into the new queue
 abbrev pub offering : {O : Type 0} → Running O → Knows O
 offering r = record { offered = Some r; home = None; due = []; given = []; taken = [] }
 

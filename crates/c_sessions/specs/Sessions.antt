@@ -24,7 +24,7 @@ use Rattle.c_sessions.specs.Images.{TakesFrom, place_taken}
 use Rattle.c_sessions.specs.declared.checkpoint.SessionCheckpoint.{SessionCheckpoint}
 use Rattle.c_sessions.specs.Handing.{IsExitOf}
 
--- something stands of the session's caller, which has seen the session's place, and the session can be closed
+-- the session has its caller, in whichever state, which has seen the session's place, and the session can be closed
 pub record IsSessionOpen {O : Type 0} (s : Session O) : Type 0 where
   pub handed : Handed
   pub is : s.handed ≡ Some handed
@@ -72,7 +72,8 @@ IsOpenFault callers lines (Start Memory) = Unit {0}
 IsOpenFault callers lines (Start fault) = IsStartFault callers lines fault
 IsOpenFault callers lines InTheWay = AreFewCallers callers × AreFewLines lines
 
--- The session after it has the same share, and this stands of its caller. Its place is this one, and does not fall.
+-- After a call the session has the share of the service that it had, and its caller became what it is now in this way. Its place is this one, and does
+-- not fall.
 pub record SessionStands {O : Type 0} (before after : Session O) (place : ℕ) (come_to : Handed → Handed → Type 0) : Type 0 where
   pub same : arc_value after.service ≡ arc_value before.service
   pub came : IfSome before.handed (λ b. IfSome after.handed (come_to b))

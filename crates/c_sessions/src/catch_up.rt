@@ -13,16 +13,16 @@ use cx_service::{CaughtUp, Handed, Service};
 pub enum SessionCatchUp {
     /// The session has seen the place.
     Caught,
-    /// The current place is below it: this one.
+    /// The current place, given here, is below the place asked for.
     Behind(u64),
     /// The caller has reached its step limit.
     Stopped,
-    /// An entry is linked that is not answered.
+    /// The caller has a linked entry that is not answered, or is stopped: nothing was done.
     OutOfTurn,
 }
 
 impl SessionCatchUp {
-    /// The place that a session tells that was to see one, and told this one before.
+    /// The session's place after it was to see `place`: the greater of `before` and `place` where it caught up, and `before` where it did not.
     pub(crate) fn place_seen(self, place: u64, before: u64) -> u64
         ensures { result ≡ place_seen self place before }
     {
@@ -33,7 +33,7 @@ impl SessionCatchUp {
     }
 }
 
-/// Has what stands of a caller see a place.
+/// Has the caller catch up with `place`. A caller that is stopped or has a linked entry is out of turn, and stays as it is.
 pub(crate) fn catch_up_idle<O: Object>(
     service: &Service<O>,
     handed: Handed,

@@ -14,16 +14,16 @@ use cx_service::{Checkpointed, Handed, Service};
 pub enum SessionCheckpoint {
     /// The image is there, at this place.
     At(u64),
-    /// Others were in the way, in each try.
+    /// Others were in the way in each try, and no image was taken.
     Again,
     /// The caller has reached its step limit.
     Stopped,
-    /// An entry is linked that is not answered.
+    /// The caller has a linked entry that is not answered, or is stopped: nothing was done.
     OutOfTurn,
 }
 
 impl SessionCheckpoint {
-    /// The place that a session tells that was to take an image, and told this one before.
+    /// The image's place, or `before` where none was taken: the session's place after a call that took an image or did not.
     pub(crate) fn place_taken(self, before: u64) -> u64
         ensures { result ≡ place_taken self before }
     {
@@ -34,7 +34,8 @@ impl SessionCheckpoint {
     }
 }
 
-/// Has what stands of a caller take an image, in at most the given number of tries.
+/// Has the caller take an image of the object into `into`, in at most the given number of tries. A caller that is stopped or has a linked entry is out of
+/// turn, and stays as it is.
 pub(crate) fn take_image<O: Object>(
     service: &Service<O>,
     handed: Handed,

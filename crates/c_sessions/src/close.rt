@@ -26,17 +26,17 @@ use std::sync::atomic::Ordering;
 /// The result of closing a session.
 #[derive(Drop)]
 pub enum Closing<O: Object> {
-    /// Other sessions of the service are not closed. The caller lies with those that are handed in.
+    /// Other sessions of the service are not closed yet. The caller lies in the queue of those that were handed in.
     Others,
-    /// Others were in the way: the session is as it was.
+    /// Others were in the way in each try to hand the caller in: the session is as it was.
     Again(Session<O>),
-    /// It was the last: what the service leaves, and the account of what the sessions handed in.
+    /// It was the last session: what the service leaves, and the account of the callers that the sessions handed in.
     Closed(Remains, Account<O>),
-    /// It was the last, and memory ran out: the service and all its callers, of caller 0 first, and that account.
+    /// It was the last session, and memory ran out: the service and all its callers, of caller 0 first, and the account of the callers handed in.
     Kept(Kept<O>, Account<O>),
-    /// It was the last, and a caller of the service is missing: what it has is to be closed again.
+    /// It was the last session, and a caller of the service is missing: what it has is to be closed again, by `close_rest`.
     Missing(Unclosed<O>),
-    /// It was the last and has all callers, and a share of the service is elsewhere: what it has is to be closed again.
+    /// It was the last session and has all callers, and a share of the service is elsewhere: what it has is to be closed again, by `close_rest`.
     Shared(Unclosed<O>),
 }
 
@@ -87,7 +87,7 @@ impl<O: Object> Session<O> {
         }
         let came = handover.came.fetch_add(1, Ordering::SeqCst);
         let last = u64::from(handover.callers) - 1;
-        // of one caller there are no others
+        // where the service has one caller, this session is the last
         if came != last && last > 0 {
             return Closing::Others;
         }
@@ -170,7 +170,7 @@ pub fn close_kept<O: Object>(alloc: Global, kept: Kept<O>) -> Result<Remains, Ke
     ensures { MatchResult result (IsClosedWith O.line_count O.lawful O.step O.only_reads kept.service (seats_of kept.callers.items)) (λ back. back ≡ kept) }
 {
     let Kept { service, callers } = kept;
-    // a running table is within its limits, by which what it leaves is a linearizable object's
+    // a running table is within its limits; what such a table leaves when it is closed is what a linearizable object leaves
     let _ = service.lines();
     service.close(alloc, callers)
 }

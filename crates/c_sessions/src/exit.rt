@@ -22,8 +22,8 @@ pub struct ClosingState<O: Object> {
     pub(crate) out: Vec<Handed>,
 }
 
-/// What the session that was closed last has where it did not close the service: its way out, with the callers that it took out of the queue, and a
-/// share of the service once it has one. `close_rest` goes on from there.
+/// What the session that was closed last has where it did not close the service: its closing state, with the callers that it took out of the queue,
+/// and a share of the service once it has one. `close_rest` goes on from there.
 #[derive(Drop)]
 pub struct Unclosed<O: Object> {
     pub(crate) service: Option<Arc<Service<O>, Global>>,
@@ -37,7 +37,7 @@ pub struct Account<O: Object> {
 }
 
 impl<O: Object> ClosingState<O> {
-    /// One more way out of a service of this many callers, for the first caller that the pass is still to hand in.
+    /// What one session needs to be closed: a pass for the first caller that `pass` is still to hand in, and room for all callers. `Err` means out of memory.
     pub(crate) fn another(
         alloc: Global,
         service: &Service<O>,

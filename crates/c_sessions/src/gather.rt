@@ -13,8 +13,8 @@ use cx_service::{Handed, Service};
 use std::alloc::Global;
 use std::sync::Arc;
 
-/// Takes callers out of the queue, beside those that were taken out before, until they are as many as the service has, or none is found. Of their
-/// shares of the service one is kept.
+/// Takes callers out of the queue, beside those that were taken out before, until they are as many as the service has, or none is found. Of the
+/// shares of the service that come with them one is kept, the last.
 pub(crate) fn gather<O: Object>(
     handover: &ReturnQueue<O>,
     pass: &mut Pass<HandedIn<O>, Knows<O>>,

@@ -1,4 +1,4 @@
-//! Where the callers of a service lie that are handed in, until the last one comes.
+//! The queue in which the callers lie that closed sessions handed in, until the last session takes them out.
 
 ghost use Rattle.std.specs.Prelude.{◌≡◌, ◌<◌, IfOk, MatchOption, Some, drop, take};
 ghost use Rattle.std.specs.Arc.{arc_value};
@@ -16,7 +16,7 @@ use std::alloc::Global;
 use std::sync::Arc;
 use std::sync::atomic::AtomicU64;
 
-/// How often a caller is put into the queue before its session is given back. Each other caller is in the way at most once.
+/// How many times a push or a pop is tried at most. Each other caller is in the way at most once.
 const TRIES: u32 = 64;
 
 /// The queue, how many of the service's callers were handed in, and how many it has.
@@ -32,7 +32,7 @@ pub struct ReturnQueue<O: Object> {
 pub(crate) enum NoQueue {
     /// Out of memory.
     Memory,
-    /// The new queue did not take the share, or did not give it back.
+    /// The new queue did not take the share of the service that goes through it first, or did not give it back.
     InTheWay,
 }
 
@@ -55,7 +55,7 @@ pub(crate) fn open_for<O: Object>(
         service: share,
         handed: None,
     };
-    // nobody is in the way of these two
+    // no other thread has the queue yet, so nobody is in the way of this push and of the pop after it
     let Ok(()) = line.try_push_as::<Opens>(&mut pass, share) else {
         return Err(NoQueue::InTheWay);
     };
@@ -71,7 +71,7 @@ pub(crate) fn open_for<O: Object>(
 }
 
 impl<O: Object> ReturnQueue<O> {
-    /// A further pass, for the first caller that the pass is still to hand in.
+    /// Makes a pass that is to hand in the first caller that `pass` is still to hand in. `pass` keeps the others.
     pub(crate) fn share(
         &self,
         service: &Service<O>,
@@ -105,7 +105,7 @@ impl<O: Object> ReturnQueue<O> {
         Err(given)
     }
 
-    /// Takes one out. `None` where the queue is empty, or others were in the way.
+    /// Takes a handed-in caller out of the queue. `None` where the queue is empty, or others were in the way in each try.
     pub(crate) fn take(&self, pass: &mut Pass<HandedIn<O>, Knows<O>>) -> Option<HandedIn<O>>
         requires { IsPassOf self.now.line pass.old × (r : Running O) × ((view pass.old).home ≡ Some r) }
         ensures pass { IsPassOf self.now.line pass.new }
@@ -119,8 +119,8 @@ impl<O: Object> ReturnQueue<O> {
         None
     }
 
-    /// What the rule tells of the callers: those that are with the pass and those elsewhere are all of the service, each once; and those that were taken out
-    /// are those that were handed in.
+    /// Gives the proof what the rule of the queue says of the callers (`TellsAll`), and changes nothing: those that are with the pass and those elsewhere are
+    /// all of the service, each once; and those that were taken out are those that were handed in.
     pub(crate) fn learn(&self, pass: &mut Pass<HandedIn<O>, Knows<O>>)
         requires { IsPassOf self.now.line pass.old × (r : Running O) × ((view pass.old).home ≡ Some r) }
         ensures same { IsPassOf self.now.line pass.new × (view pass.new ≡ view pass.old) }

@@ -1,4 +1,4 @@
-//! The rule of the queue in which callers are handed in, and what its steps tell.
+//! The rule of the queue in which callers are handed in, and what a pass knows after each of its steps.
 
 use crossbeam_queue::RuledArrayQueue;
 use crossbeam_queue::protocol::{Lesson, Outcome, Protocol, Split};
@@ -39,7 +39,7 @@ impl<O: Object> Protocol<HandedIn<O>, Knows<O>> for OfOneService {
     ghost first = { new_pass };
 }
 
-/// The queue.
+/// The queue in which callers are handed in, with its rule.
 pub type ReturnedCallers<O> = RuledArrayQueue<HandedIn<O>, Knows<O>, OfOneService>;
 
 /// A share without a caller is put into the new queue, by which the first pass learns the service.
@@ -53,7 +53,7 @@ impl<O: Object> Outcome<HandedIn<O>, Knows<O>> for Opens {
     ghost then = { λ v x w. w ≡ offering (arc_value x.service) };
 }
 
-/// It is taken out again, and the first pass is to hand in all callers.
+/// The share without a caller is taken out of the new queue again, and the first pass is to hand in all callers from then on.
 pub(crate) struct Starts;
 
 impl<O: Object> Outcome<HandedIn<O>, Knows<O>> for Starts {
@@ -63,7 +63,7 @@ impl<O: Object> Outcome<HandedIn<O>, Knows<O>> for Starts {
     ghost then = { λ v x w. w ≡ pass_of_all v.offered };
 }
 
-/// A pass is made of another, which is to hand in one caller less.
+/// A pass is made for the first caller that another pass is to hand in; that pass is to hand in one caller less.
 pub(crate) struct Parts;
 
 impl<O: Object> Split<Knows<O>> for Parts {
@@ -74,7 +74,7 @@ impl<O: Object> Split<Knows<O>> for Parts {
     ghost right = { λ v. first_due v };
 }
 
-/// A caller is put into the queue.
+/// A pass puts its caller into the queue, and knows from then on that it handed this caller in.
 pub(crate) struct Gives;
 
 impl<O: Object> Outcome<HandedIn<O>, Knows<O>> for Gives {
@@ -84,7 +84,7 @@ impl<O: Object> Outcome<HandedIn<O>, Knows<O>> for Gives {
     ghost then = { λ v x w. w ≡ pass_with_given v x };
 }
 
-/// A caller is taken out.
+/// A pass takes a caller out of the queue, and knows this caller, as it was handed in, from then on.
 pub(crate) struct Takes;
 
 impl<O: Object> Outcome<HandedIn<O>, Knows<O>> for Takes {

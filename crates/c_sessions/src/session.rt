@@ -28,7 +28,7 @@ pub struct Session<O: Object> {
 }
 
 impl<O: Object> Session<O> {
-    /// A session of what stands of a caller.
+    /// The session of a caller in whichever state that is. Its place is 0: it was answered nothing yet.
     pub(crate) fn of(
         service: Arc<Service<O>, Global>,
         exit: ClosingState<O>,
@@ -47,7 +47,7 @@ impl<O: Object> Session<O> {
         }
     }
 
-    /// Does an operation, in at most the given number of tries. The reply is written where the call is done; else nothing is said of its words.
+    /// Does an operation, in at most the given number of tries. The reply is written where the call is done; `reply` may have any words where it is not.
     ///
     /// From `crates/githoppu_c/src/content.rt`:
     /// ```rattle
@@ -83,7 +83,7 @@ impl<O: Object> Session<O> {
         called
     }
 
-    /// The place that tells another session what this one has seen: who catches up with it sees all that this one was answered or caught up with.
+    /// The session's place: who catches up with it sees all that this session was answered or caught up with.
     /// It is 0 before the first answer, and does not fall.
     pub fn place(&self) -> u64
         ensures { result ≡ self.now.place }
@@ -91,8 +91,8 @@ impl<O: Object> Session<O> {
         self.place
     }
 
-    /// Has the session see a place that another one of the service told, in whatever way. From `Caught` on what it is answered stands at or above
-    /// the place. `Behind` comes only where the current place was found below it, which is where nobody was answered at it.
+    /// Has the session catch up with the place of another session of the service, got in whatever way. From `Caught` on each answer to this session stands at
+    /// or above `place`. `Behind` comes only where the current place was found below `place`, which is where nobody was answered at it.
     pub fn catch_up(&mut self, place: u64) -> SessionCatchUp
         requires opened { IsSessionOpen self.old }
         ensures { LeavesOpen self.new (SeesIn place self.old result self.new) }
@@ -107,7 +107,7 @@ impl<O: Object> Session<O> {
     }
 
     /// Takes an image of the object, results included, while others go on, in at most the given number of tries. After `At` the words are a base from
-    /// which a service may start, at this place, which is the session's then. Else nothing is told of them.
+    /// which a service may start, at this place, which is the session's then. After another answer `into` may have any words.
     pub fn checkpoint(&mut self, into: &mut [u64], tries: Tries) -> SessionCheckpoint
         requires opened { IsSessionOpen self.old }
         requires words { length into.old ≡ length (arc_value self.old.service).base.words }
@@ -142,7 +142,7 @@ impl<O: Object> Session<O> {
 
 const fn goes_to_a_thread<T: Send>() {}
 
-/// A session may go to another thread, where its object may be shared by threads.
+/// A check by the compiler, which does nothing: a session may go to another thread where its object may, and may be shared by threads.
 pub const fn sessions_cross_threads<O: Object + Send + Sync>() {
     goes_to_a_thread::<Session<O>>();
 }

@@ -1,4 +1,4 @@
-//! What a call does with what stands of a caller.
+//! A session's call, made by its caller in whichever state that is: idle, with a linked entry, or stopped.
 
 ghost use Rattle.std.specs.Prelude.{◌≡◌, IsTrue};
 ghost use Rattle.cx_service.specs.Callers.{IsCallerOf, IsLinkedOf};
@@ -12,24 +12,24 @@ use cx_service::{Caller, Driven, Handed, Linked, ReadTried, Service, Submitted};
 /// The result of a call.
 #[derive(Clone, Copy, Debug, PartialEq, Eq, Drop)]
 pub enum Called {
-    /// It is answered, and the reply is there. The place tells others what is seen then: of an entry it is the ticket plus 1, of a read the read's.
+    /// The call is answered, and its reply is written. Who catches up with this place sees the call: the ticket plus 1 of an entry, the place of a read.
     Done(u64),
     /// The entry is linked and not answered yet.
     Pending,
-    /// Others were in the way, and nothing is linked.
+    /// Others were in the way in each try, and nothing is linked.
     Again,
     /// No cell of the caller is idle: another caller needs entries in them. Nothing is linked.
     Full,
-    /// There is no further ticket.
+    /// There is no further ticket, and nothing is linked.
     Worn,
     /// The caller has reached its step limit.
     Stopped,
-    /// An entry is linked that is not answered, or none is where one is to be finished.
+    /// The caller is in the wrong state for this call, and nothing was done: `call` takes an idle caller, and `finish` one with a linked entry.
     OutOfTurn,
 }
 
 impl Called {
-    /// The place that a session tells after the call, which told this one before.
+    /// The session's place after the call: the answer's place where the call is done, and `before` where it is not.
     pub(crate) fn place_after(self, before: u64) -> u64
         ensures { result ≡ place_after self before }
     {
@@ -40,7 +40,7 @@ impl Called {
     }
 }
 
-/// Does an operation of a caller with no call under way.
+/// Does an operation of an idle caller. A caller that is stopped or has a linked entry is out of turn, and stays as it is.
 pub(crate) fn call_idle<O: Object>(
     service: &Service<O>,
     handed: Handed,
@@ -57,7 +57,7 @@ pub(crate) fn call_idle<O: Object>(
     }
 }
 
-/// Drives the entry of a caller that has one.
+/// Drives the linked entry of a caller to its answer. A caller without a linked entry is out of turn, and stays as it is.
 pub(crate) fn finish_linked<O: Object>(
     service: &Service<O>,
     handed: Handed,
@@ -73,7 +73,7 @@ pub(crate) fn finish_linked<O: Object>(
     }
 }
 
-/// Asks an operation of a caller with no call under way: beside the queue where it only reads.
+/// Does an operation of an idle caller: by a read beside the queue where it only reads, and as an entry of the queue where it does not.
 fn read_or_enter<O: Object>(
     service: &Service<O>,
     caller: Caller,
@@ -91,7 +91,7 @@ fn read_or_enter<O: Object>(
     }
 }
 
-/// Reads beside the queue.
+/// Does an operation that only reads, by a read beside the queue.
 fn read_idle<O: Object>(
     service: &Service<O>,
     caller: Caller,

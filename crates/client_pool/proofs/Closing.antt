@@ -32,6 +32,6 @@ module _ {O : Type 0} (r : Running O) (table : TableId) where
   lents_are lents clients are each =
       subst (All (IsLentOf r table)) (sym are) (All-map (IsLentOf r table) (λ (c : Client). c.lent) clients (All-weaker (IsClientOf r table) (λ (c : Client). IsLentOf r table c.lent) (λ c is. lent_of c.lent is) clients each))
 
--- the last one's behind those of the others
+-- what all clients have, in order, is what the others have, with what the last one has behind it
 pub all_of : {A : Type 0} (f : Client → A) (xs ys : List A) (clients front : List Client) (last : Client) → ys ≡ xs ++ f last ∷ [] → xs ≡ map f front → clients ≡ front ++ last ∷ [] → ys ≡ map f clients
 all_of f xs ys clients front last more are all = more ∙ ap (λ l. l ++ f last ∷ []) are ∙ sym (map-append f front (last ∷ [])) ∙ ap (map f) (sym all)

@@ -73,7 +73,7 @@ module _ {O : Type 0} (r : Running O) where
         let all : length callers ≡ length (front ++ x ∷ rest) = ap length here in
         omega (arith, long, short, all, length-append front (x ∷ rest))
 
-    -- and it is one of the service, with its limit and without a call
+    -- the next caller to be placed is one of the service, with its limit, and was answered no call
     pub is_next : (home : Option ServiceView) → limits_at home ≡ map (λ (s : Seated). s.known.local.limit) callers → IsCallerOf r x × HasLimit (limits_at home) x × (calls_of x ≡ [])
     is_next home limits =
         let is = each_here (IsNewCaller r) front rest x (subst (All (IsNewCaller r)) here new.each) in

@@ -30,7 +30,7 @@ use Rattle.client_pool.specs.declared.pool.PooledRead.{PooledRead}
 use Rattle.client_pool.specs.declared.pool.PooledRead.TheVariants.{Read as ReadSeen, Queued, Full as FullRead, Worn as WornRead, Stopped as StoppedRead, Memory as MemoryRead}
 use Rattle.client_pool.specs.Lending.{ComesFrom, HaltsBesideQueue, IsLentTo, IsReadRefused, KeepsFull, KeepsStopped, KeepsWorn, MayLend, ReturnsFirst, limits_of}
 
--- what its client sees of a call
+-- what a client is answered by a call
 abbrev pub answered_by : Call → Answered
 answered_by (Entry call) = Updated call.caller call.answer
 answered_by (Look read) = Read (record { place = read.place; reply = read.reply })
@@ -191,7 +191,8 @@ UpdatesForClient r table op reply before after Worn = HasNoMore r table before a
 UpdatesForClient r table op reply before after (Stopped linked) = HasNoMore r table before after × KeepsStopped r table (HaltsClientUpdate r op) before.lent after.lent linked
 UpdatesForClient r table op reply before after Memory = HasNoMore r table before after × WantsRoom before after
 
--- The result of a read of this operation, which left these words in the client's buffer. The same caller makes it. It enters the queue only where it met eight refusals beside it.
+-- The result of a read of this operation, which left these words in the client's buffer. The caller that the client keeps makes the call,
+-- where it keeps one. The read enters the queue only where the caller met eight refusals beside it.
 abbrev pub ReadsForClient : {O : Type 0} → Running O → TableId → List ℕ → List ℕ → Client → Client → PooledRead → Type 0
 ReadsForClient r table op reply before after (ReadSeen place) = (made : HasRead r table op before after (seen_with place reply)) × IsReadShown r op before.lent after.lent made.read
 ReadsForClient r table op reply before after (Queued ticket) = (made : HasUpdated r table op before after (answer_with ticket reply)) × IsClientAnswered r (IsReadRefused r) op before.lent after.lent made.call

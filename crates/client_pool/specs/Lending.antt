@@ -92,7 +92,7 @@ pub record IsFirstCaller (keeps : Option Handed) (v : LenderPass) (x : Seated) :
   pub kept : IsKeptCaller keeps x
   pub taken : keeps ≡ None → v.held ≡ x ∷ []
 
--- The caller that was out was given back, and no other, and was so then.
+-- The caller that was out was given back as `back`, and no other caller was given back.
 pub record Returns (before after : Lent) (back : Seated) : Type 0 where
   pub taken : Seated
   pub held : (view before.pass).held ≡ taken ∷ []

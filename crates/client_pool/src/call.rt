@@ -7,13 +7,13 @@ use seat_pool::AnsweredCall;
 /// What a client was answered.
 #[derive(Clone, Copy, Debug, PartialEq, Eq, Drop)]
 pub enum Answered {
-    /// Its operation is an entry of this caller.
+    /// The operation is an entry of this caller in the queue, with this answer.
     Updated { caller: u32, answer: Answer },
-    /// It was read beside the queue.
+    /// The operation only reads, and was answered beside the queue with what was seen.
     Read { seen: Seen },
 }
 
-/// A call of a client that is answered, with what it is an answer of. No value of it is made.
+/// An answered call of a client, for proofs: the entry with its answer, or the read, that the client was answered. No value of this type is made.
 pub enum Call {
     Entry(AnsweredCall),
     Look(SeenRead),

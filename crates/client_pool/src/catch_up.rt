@@ -11,7 +11,7 @@ use cx_service::CaughtUp;
 use seat_pool::{Lent, give};
 use std::sync::Wait;
 
-/// Has a caller of the client's see a place, and gives it back unless its step limit was reached.
+/// Takes a caller for the client, has it see `place`, and gives it back. Where its step limit was reached the client keeps it.
 fn catch_up_lent<O: Object, R: Wait>(
     rt: &R,
     pool: &Pool<O>,
@@ -32,6 +32,7 @@ fn catch_up_lent<O: Object, R: Wait>(
             PooledCatchUp::Behind(found)
         }
         CaughtUp::Halted(stopped) => {
+            // catching up links no entry, so the stopped caller has none
             let _none = keep_stopped(lent, stopped);
             PooledCatchUp::Stopped
         }
@@ -39,11 +40,11 @@ fn catch_up_lent<O: Object, R: Wait>(
 }
 
 impl<O: Object> Pool<O> {
-    /// Has a client that was not told `Stopped` see a place that another one told, in whatever way: `Client::place` of another client, or of a
-    /// caller's answers the ticket plus 1 of an update and the place of a read. From `Caught` on no answer to the client holds below the place, by
-    /// whichever caller it is made. `Behind` comes only where the current place was found below it, which is where nobody was answered at it;
-    /// nothing is changed then. It waits for a caller. `Stopped` comes only where the caller's step limit was reached: the client keeps it,
-    /// and makes no further call.
+    /// Has a client that was never answered `Stopped` catch up with a place that it got in whatever way: `Client::place` of another client, or of a
+    /// caller's answers the ticket plus 1 of an update and the place of a read. From `Caught` on no answer to the client holds below `place`, by
+    /// whichever caller it is made. `Behind` comes only where the current place was found below `place`, which is where nobody was answered at it;
+    /// nothing is changed then. The call waits for a caller. `Stopped` comes only where the caller's step limit was reached: the client keeps that
+    /// caller, and makes no further call.
     pub fn catch_up<R: Wait>(&self, rt: &R, client: &mut Client, place: u64) -> PooledCatchUp
         requires { MayCall O.only_reads self.now client.old }
         ensures { ClientCatchesUp self.now.service self.now.line.table.shared.table_id place client.old client.new result }

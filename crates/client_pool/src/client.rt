@@ -9,7 +9,7 @@ use crossbeam_queue::Pass;
 use cx_service::{Caller, Handed};
 use seat_pool::{LenderPass, Lent};
 
-/// One of those that share the callers of a service.
+/// A client of a pool: one of those that share the callers of a service. It carries its own answers and the place that it has seen.
 #[derive(Drop)]
 pub struct Client {
     pub(crate) number: u32,
@@ -32,7 +32,7 @@ pub(crate) struct Closing {
 }
 
 impl Client {
-    /// The client, from 0.
+    /// The number of the client among those of its pool, from 0.
     pub fn number(&self) -> u32
         ensures { result ≡ self.now.number }
     {
@@ -46,29 +46,29 @@ impl Client {
         self.floor
     }
 
-    /// The greatest place that it caught up with, 0 at first. No later answer to the client holds below this place either.
+    /// The greatest place that the client caught up with, 0 at first. No later answer to the client holds below this place.
     pub fn caught_up(&self) -> u64
         ensures { result ≡ self.now.caught_up }
     {
         self.caught_up
     }
 
-    /// The place that tells another client or caller what this one has seen: who catches up with it sees all that this one was answered or
-    /// caught up with.
+    /// The client's place, the greater of its floor and of the place that it caught up with. Another client or caller that catches up with it sees all that
+    /// this client was answered or caught up with.
     pub fn place(&self) -> u64
         ensures { result ≡ max self.now.floor self.now.caught_up }
     {
         self.floor.max(self.caught_up)
     }
 
-    /// What it was answered, in order.
+    /// What the client was answered, in the order of its calls.
     pub fn answers(&self) -> &[Answered]
         ensures { result.now ≡ self.now.answers.items }
     {
         self.answers.as_slice()
     }
 
-    /// Whether it may make a further call: it keeps no stopped caller.
+    /// Whether the client may make a further call: it may, unless it keeps a stopped caller.
     pub fn is_live(&self) -> bool
         ensures { result ≡ is_live self.now.lent.kept }
     {

@@ -15,7 +15,7 @@ use seat_pool::Lent;
 use std::alloc::Global;
 use std::sync::Wait;
 
-/// What was lent to clients, and what else they are.
+/// Parts the clients into what was lent to each of them, and what is left of each (`FormerClient`), in order. Both lists have room for all.
 fn part_clients(
     clients: Vec<Client>,
     mut lents: Vec<Lent>,
@@ -48,8 +48,8 @@ fn part_clients(
 impl<O: Object> Pool<O> {
     /// Closes the pool and its service, given all its clients, of client 0 first. The history that is left is a linearization of the calls, by the
     /// order of all callers' steps. All callers are gathered, those in the queue and those that clients keep, each once
-    /// and in whatever state it is. The calls that the clients were told are those that the callers show as answered, each once, but for at most one of
-    /// each stopped caller, which was told to nobody. `Err` comes only where memory runs out, and hands back the service, all its callers, of caller 0
+    /// and in whatever state it is. The clients' answered calls are those that the callers show as answered, each once, but for at most one of each
+    /// stopped caller, whose answer no client got. `Err` comes only where memory runs out, and hands back the service, all its callers, of caller 0
     /// first, and what the clients were answered.
     pub fn close<R: Wait>(
         self,
@@ -93,8 +93,9 @@ impl<O: Object> Pool<O> {
             floor,
             answers,
         });
-        // a running table is within its limits, by which what it leaves is a linearizable object's
+        // a running table is within its limits
         let _lines = service.lines();
+        // what such a table leaves when it is closed is what a linearizable object leaves, by the order of all callers' steps
         closed_tables_are_linearizable::<O>();
         match seat_pool::close(rt, alloc, service, line, rest, lents, handed_room, out) {
             Ok(remains) => Ok(remains),

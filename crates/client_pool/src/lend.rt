@@ -1,4 +1,7 @@
 //! A caller is taken for a call of a client, and given back or kept.
+//!
+//! What the passes here know is a `LenderPass` of `seat_pool`: its `home` is the service that lends the callers, and its `parts` are some of the 1,024
+//! parts into which the right to know the whole queue is cut. A client's pass has one of them; a pass without any may take no caller.
 
 ghost use Rattle.std.specs.Prelude.{◌≡◌, ◌<◌, IsTrue, Some, true};
 ghost use Rattle.crossbeam_queue.specs.Passes.{view, IsPassOf};
@@ -16,22 +19,22 @@ use seat_pool::{LenderPass, LenderQueue, Lent, give, take};
 use std::sync::Wait;
 use std::thread;
 
-/// The attempts of a read of the probe before it is begun again.
+/// The number of attempts of one read of the probe, after which the thread yields and reads again.
 const TURNS: u64 = 8;
 
-/// The result of having a caller see all below a floor.
+/// The result of having a caller see all entries below a floor.
 #[derive(Drop)]
 pub(crate) enum Caught {
-    /// Its front is not below the floor.
+    /// The caller has seen all below the floor: its front is not below it.
     Up(Caller),
-    /// Its step limit was reached.
+    /// The caller's step limit was reached.
     Ended(Stopped),
 }
 
 /// The result of an operation that enters the queue.
 #[derive(Drop)]
 pub(crate) enum EntryOutcome {
-    /// It is answered, as an entry of this caller at this ticket.
+    /// The operation is answered, as an entry of the caller of this number at this ticket.
     Done(u32, u64),
     /// No cell of the caller is idle.
     Full(FullNote),
@@ -41,15 +44,18 @@ pub(crate) enum EntryOutcome {
     Halted(Option<u64>),
 }
 
-/// Waits for a caller in the queue, and takes it out.
+/// Waits until there is a caller in the queue, and takes it out.
 fn take_waiting<O: Object, R: Wait>(
     rt: &R,
     service: &Service<O>,
     line: &LenderQueue,
     pass: &mut Pass<Caller, LenderPass>,
 ) -> Caller
+    // Three facts: the pass is one of this queue, it knows that the queue is this service's, and it has a part, by which it may take a caller.
     requires { IsPassOf line.now pass.old × IsHomeOf service.now (view pass.old).home × (0 < (view pass.old).parts) }
+    // The pass is still one of this queue, and holds the caller.
     ensures pass { IsPassOf line.now pass.new × (view pass.new ≡ with_taken (view pass.old) result) }
+    // The caller is one of the service, and has the step limit with which it was placed in the queue.
     ensures caller { IsCallerOf service.now result × HasLimit (limits_at (view pass.old).home) result }
 {
     for _ in rt.forever() {
@@ -61,7 +67,7 @@ fn take_waiting<O: Object, R: Wait>(
     unreachable!()
 }
 
-/// The caller that the client keeps, or else one out of the queue.
+/// Takes the caller for a call: the one that the client keeps, or, where it keeps none, one out of the queue, for which it waits.
 pub(crate) fn take_for<O: Object, R: Wait>(
     rt: &R,
     service: &Service<O>,
@@ -81,7 +87,7 @@ pub(crate) fn take_for<O: Object, R: Wait>(
     }
 }
 
-/// Reads the probe, into a buffer, until the caller has seen all below the floor: it waits for those who publish.
+/// Reads the probe, into `buffer`, until the caller has seen all below `floor`. It waits for those who publish.
 fn catch_up<O: Object, R: Wait>(
     rt: &R,
     service: &Service<O>,
@@ -111,7 +117,7 @@ fn catch_up<O: Object, R: Wait>(
     unreachable!()
 }
 
-/// The client keeps a stopped caller. The result is its linked entry that no call has answered.
+/// Makes the client keep a stopped caller. The result is the ticket of the caller's linked entry that no call has answered, if there is one.
 pub(crate) fn keep_stopped(lent: &mut Lent, stopped: Stopped) -> Option<u64>
     ensures kept { (lent.new.pass ≡ lent.old.pass) × (lent.new.kept ≡ Some (handed_cases.Stopped stopped)) }
     ensures linked { result ≡ stopped.linked }
@@ -121,8 +127,8 @@ pub(crate) fn keep_stopped(lent: &mut Lent, stopped: Stopped) -> Option<u64>
     linked
 }
 
-/// Takes a caller that has seen all below the floor, by reads into a buffer. The client keeps one whose step limit was reached: the result is then its
-/// linked entry that no call has answered.
+/// Takes a caller, and has it see all below `floor`, by reads of the probe into `buffer`. `Err` comes where the caller's step limit was reached: the client
+/// keeps it, and the ticket is that of its linked entry that no call has answered.
 pub(crate) fn begin<O: Object, R: Wait>(
     rt: &R,
     pool: &Pool<O>,
@@ -140,7 +146,7 @@ pub(crate) fn begin<O: Object, R: Wait>(
     }
 }
 
-/// The result of an operation that entered the queue: the caller that was out is given back once it is answered, and else the client keeps it.
+/// Puts the caller away after an operation that entered the queue: gives it back where the operation is answered, and has the client keep it where not.
 pub(crate) fn settle<O: Object, R: Wait>(
     rt: &R,
     pool: &Pool<O>,
@@ -155,7 +161,7 @@ pub(crate) fn settle<O: Object, R: Wait>(
     match updated {
         Updated::Done(back, ticket) => {
             let number = back.number();
-            // its ticket is below this
+            // the proof takes from this that the caller's front is at most 2^40, the number of all tickets
             let _front = back.front();
             give(rt, &pool.service, &pool.line, &mut lent.pass, back);
             EntryOutcome::Done(number, ticket)

@@ -10,7 +10,7 @@
 //! - `update` and `read` take a caller out of the queue, see to it that it has seen what the client was answered before or caught up with
 //!   (`Client::place`), make the call, and give the caller back. A client that was answered Full or Worn keeps its caller for its next call, and one
 //!   whose caller is stopped makes no further call: so no caller is lost.
-//! - `catch_up` has a client see what another one was answered, by a place that the other tells: no later answer of the client holds below it.
+//! - `catch_up` has a client see what another client was answered, by that client's place: no later answer of the client holds below it.
 //! - `close` gathers all callers and closes the service.
 //!
 //! Each client has one list of calls (`HasCalls` in `specs/Clients.antt`): what it was answered, with the entries and the reads that these are answers of. No

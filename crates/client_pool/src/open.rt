@@ -15,14 +15,14 @@ use seat_pool::{LenderPass, LenderQueue, Lent, place, share};
 use std::alloc::{AllocError, Global};
 use std::sync::Wait;
 
-/// A pool that was not opened since memory ran out: the service and its callers, as they were.
+/// What `Pool::open` hands back where memory ran out: the service and its callers, as they were.
 #[derive(Drop)]
 pub struct Unopened<O: Object> {
     pub service: Service<O>,
     pub callers: Vec<Caller>,
 }
 
-/// Room for the clients, and for what closing the pool takes.
+/// Lists with room for the clients of a pool, and for what closing the pool takes.
 #[derive(Drop)]
 pub(crate) struct Rooms {
     pub(crate) clients: Vec<Client>,
@@ -66,7 +66,8 @@ fn place_all<O: Object, R: Wait>(
     pass
 }
 
-/// A client that has made no call.
+/// Makes a client that has made no call. Its own pass of the queue gets one part of `pass`: one of the 1,024 parts into which the right to know the whole
+/// queue is cut (see `seat_pool::LenderPass`).
 fn new_client<O: Object>(
     alloc: Global,
     service: &Service<O>,
@@ -74,7 +75,9 @@ fn new_client<O: Object>(
     pass: &mut Pass<Caller, LenderPass>,
     number: u32,
 ) -> Client
+    // Three facts: the pass is one of this queue, it knows that the queue is this service's, and it has a part for the client beside one for itself.
     requires { IsPassOf line.now pass.old × IsHomeOf service.now (view pass.old).home × (1 < (view pass.old).parts) }
+    // The pass is still one of this queue, and has one part less.
     ensures pass { IsPassOf line.now pass.new × (view pass.new ≡ cut_left (view pass.old)) }
     ensures client { IsNewClient service.now line.now.table.shared.table_id (limits_at (view pass.old).home) number result }
 {
@@ -91,7 +94,7 @@ fn new_client<O: Object>(
     }
 }
 
-/// The clients of a pool. The last one has what closing it takes.
+/// Makes the clients of a pool, numbered from 0. The last client gets what closing the pool takes: the rest of the first pass, and the rooms.
 fn new_clients<O: Object>(
     alloc: Global,
     service: &Service<O>,
@@ -130,7 +133,7 @@ fn new_clients<O: Object>(
 }
 
 impl<O: Object> Pool<O> {
-    /// Opens a pool: all callers of a service, of caller 0 first, none of which has linked an entry, and the given number of clients of theirs, 1 to 64.
+    /// Opens a pool of all callers of a service, of caller 0 first, none of which has linked an entry, and makes `clients` clients that share them, 1 to 64.
     /// The probe is an operation that only reads. `Err` comes only where memory runs out, and hands back what was given.
     ///
     /// The probe reads counter 0. From `crates/life_tests/src/pool_starts.rt`:
@@ -156,7 +159,7 @@ impl<O: Object> Pool<O> {
         ensures opened { IfOk result (λ r. (r.0.service ≡ service) × IsPool O.only_reads r.0 × AreNewClients service r.0.line.table.shared.table_id (map (λ c. c.known.local.limit) callers.items) clients r.1.items) }
         ensures kept { IfErr result (λ k. (k.service ≡ service) × (k.callers ≡ callers)) }
     {
-        // a running service has a caller
+        // a running service is within its limits: it has one caller at least
         let _lines = service.lines();
         let Ok(rooms) = rooms_for(alloc, callers.len(), clients as usize) else {
             return Err(Unopened { service, callers });

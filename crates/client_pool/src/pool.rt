@@ -6,7 +6,7 @@ use cx_core::FullNote;
 use cx_service::{Handed, Service};
 use seat_pool::LenderQueue;
 
-/// A service whose callers clients share. It is shared by threads.
+/// A service, the queue in which its callers wait for clients, and an operation that only reads, the probe. Threads share a pool.
 #[derive(Drop)]
 pub struct Pool<O: Object> {
     pub(crate) service: Service<O>,
@@ -14,7 +14,7 @@ pub struct Pool<O: Object> {
     pub(crate) probe: OpWords,
 }
 
-/// What a client was, whose pool was to be closed: no caller is lent to it any more.
+/// What is left of a client when its pool is to be closed. No caller is lent to it any more.
 #[derive(Drop)]
 pub struct FormerClient {
     pub number: u32,
@@ -50,7 +50,7 @@ pub enum Pooled {
 pub enum PooledCatchUp {
     /// The client has seen the place.
     Caught,
-    /// The current place is below it: this one.
+    /// The current place, given here, is below the place asked for.
     Behind(u64),
     /// The caller's step limit was reached. The client keeps it, and makes no further call.
     Stopped,
@@ -59,9 +59,9 @@ pub enum PooledCatchUp {
 /// The result of a read.
 #[derive(Clone, Copy, Debug, PartialEq, Eq, Drop)]
 pub enum PooledRead {
-    /// It is answered beside the queue at this place, and the reply there is written.
+    /// The read is answered beside the queue at this place, and the reply there is written.
     Read(u64),
-    /// It is answered as an entry of the queue at this ticket, and the reply is written.
+    /// The read is answered as an entry of the queue at this ticket, and the reply is written.
     Queued(u64),
     /// No cell of the caller is idle: the note names another caller that needs entries in them. The client keeps its caller.
     Full(FullNote),

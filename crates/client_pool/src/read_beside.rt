@@ -17,13 +17,13 @@ use std::thread;
 /// The result of an operation that only reads.
 #[derive(Drop)]
 pub(crate) enum LookupOutcome {
-    /// It is answered beside the queue at this place.
+    /// The read is answered beside the queue at this place.
     Found(u64),
-    /// It entered the queue.
+    /// The read entered the queue, with this result.
     Entered(EntryOutcome),
 }
 
-/// Reads by a caller that is out, until the place of what was read is not below the floor.
+/// Reads by `caller`, which was taken for the call, until the place of what was read is not below `floor`, or the read enters the queue.
 fn read_beside<O: Object, R: Wait>(
     rt: &R,
     pool: &Pool<O>,
@@ -62,7 +62,7 @@ fn read_beside<O: Object, R: Wait>(
 }
 
 impl<O: Object> Pool<O> {
-    /// Answers an operation that only reads for a client that was not told `Stopped`, by a caller that has seen all that the client was answered before or
+    /// Answers an operation that only reads for a client never answered `Stopped`, by a caller that has seen all that the client was answered before or
     /// caught up with: beside the queue, or as an entry of it. The reply is written into the client's buffer as in `update`. A read whose place is below
     /// that is made again. It waits as `update` does, and `Full`, `Worn`, `Stopped` and `Memory` are as there.
     pub fn read<R: Wait>(

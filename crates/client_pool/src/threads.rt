@@ -8,7 +8,8 @@ const fn goes_to_a_thread<T: Send>() {}
 
 const fn is_shared_by_threads<T: Sync>() {}
 
-/// A client may go to another thread. A pool may too, and may be shared, where its object may.
+/// A check by the compiler, which does nothing: a client may go to another thread; a pool may go to another thread and be shared by threads where its
+/// object may.
 pub const fn cross_threads<O: Object + Send + Sync>() {
     goes_to_a_thread::<Client>();
     goes_to_a_thread::<Pool<O>>();

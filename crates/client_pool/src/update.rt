@@ -11,10 +11,10 @@ use cx_service::Answer;
 use std::sync::Wait;
 
 impl<O: Object> Pool<O> {
-    /// Enters an operation into the queue for a client that was not told `Stopped`, by a caller that has seen all that the client was answered before or caught
+    /// Enters an operation into the queue for a client never answered `Stopped`, by a caller that has seen all that the client was answered before or caught
     /// up with. It waits for a caller, and for those who link and publish. `Full`, `Worn` and `Stopped` come only where the service answered the caller so in
     /// this call: the client keeps it, and its answers and its floor are as before. `Memory` is want of room for the answer, and leaves all as it was. The
-    /// reply is written into the client's buffer, of which nothing is said where the operation is not answered.
+    /// reply is written into `reply`, which may have any words where the operation is not answered.
     ///
     /// From `crates/life_tests/src/server.rt`:
     /// ```rattle

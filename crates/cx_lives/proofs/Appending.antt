@@ -83,7 +83,7 @@ module _ {Op Reply Store : Type 0} (m : Meaning Op Reply Store) (lines version :
       (subst (λ b. IsCrashedLife step reads b run) one.began one.crashed, subst (λ b. AreCrashedLives step reads b runs) (one.next_is ∙ ap (λ b. next_base step reads b run) one.began) rest)
   crashed_of begun base _ _ _ _ are = absurd are
 
-  -- and together they are one object
+  -- the runs of all lives together are those of one durable object
   one_object : ObjectLaws lines is_lawful step → (first : Base) → LawfulBase lines is_lawful first → (lives : List (Life Op)) (records : List (LifeRecord Reply)) (trails : List Ending) (ends : List LifeEnd)
       (each : AreToldFrom m lines version is_lawful step reads (nothing_begun m) first lives records trails ends)
       → AreOneObject lines is_lawful step reads first (runs_of m lines version is_lawful step reads (nothing_begun m) first lives records trails ends each)

@@ -115,7 +115,7 @@ numbered IsOf number_of k (w ∷ ws) (d ∷ ds) long numbers each =
     )
 numbered IsOf number_of k _ _ long numbers each = absurd (omega (arith, long))
 
--- the first of them, which found memory, and the others
+-- the result of the first of some workers, where it found memory, is one of that worker's client, and the results of the others are of the clients after it
 pub first_result : {Done : Type 0} (IsOf : ℕ → Done → Type 0) (k : ℕ) (works left : List (Result Done AllocError)) (first : Result Done AllocError) (done : Done) → works ≡ first ∷ left → first ≡ Ok done → AreResultsFrom IsOf k works → IsOf k done × AreResultsFrom IsOf (k + 1) left
 first_result {Done} IsOf k works left first done is was all = subst (AreResultsFrom IsOf k) (is ∙ ap (λ (w : Result Done AllocError). w ∷ left) was) all
 

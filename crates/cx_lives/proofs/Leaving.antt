@@ -28,15 +28,15 @@ module _ {Reply : Type 0} (client i : ℕ) (works : List (Result (WorkerOutcome 
   parts : is_stopped client (stops_left (drop i works)) ≡ is_stopped client (stop_told work) || is_stopped client (stops_left (drop (i + 1) works))
   parts = ap (λ ws. is_stopped client (stops_left ws)) next_left ∙ stopped_both client (stop_told work) (stops_left (drop (i + 1) works))
 
-  -- the next one was stopped
+  -- where the worker looked at next has the client's stop line, the answer is that the client was stopped
   pub stopped_here : (b : Bool) → is_stopped client (stop_told work) ≡ true → b ≡ is_stopped client (stops_left (drop i works)) → b ≡ true
   stopped_here b here so_far = so_far ∙ parts ∙ ap (λ t. t || is_stopped client (stops_left (drop (i + 1) works))) here
 
-  -- or it was not, and is passed over
+  -- where the worker looked at next does not have the client's stop line, the answer is that of the workers behind it
   pub stopped_later : (b : Bool) → is_stopped client (stop_told work) ≡ false → b ≡ is_stopped client (stops_left (drop i works)) → b ≡ is_stopped client (stops_left (drop (i + 1) works))
   stopped_later b here so_far = so_far ∙ parts ∙ ap (λ t. t || is_stopped client (stops_left (drop (i + 1) works))) here
 
--- none is left
+-- where all workers were looked at, and none has the client's stop line, the answer is that the client was not stopped
 pub stopped_never : {Reply : Type 0} → (client i : ℕ) (works : List (Result (WorkerOutcome Reply) AllocError)) (b : Bool) → length works ≤ i → b ≡ is_stopped client (stops_left (drop i works)) → b ≡ false
 stopped_never client i works b over so_far = so_far ∙ ap (λ ws. is_stopped client (stops_left ws)) (drop_all i works over)
 
@@ -60,7 +60,7 @@ stopped_more client before told now left f e =
 abbrev pub HoldersStopped : List StopLine → List FullLine → Type 0
 HoldersStopped stops fulls = All (λ (line : FullLine). is_stopped line.note.holder stops ≡ true) fulls
 
--- they stay so where one client's work is put to the others, whose own full line names such a holder
+-- the holders of all full lines were stopped, also with one client's work more, where the holders of that client's own full lines were
 pub holders_more : (before now told left : List StopLine) (fulls more : List FullLine) → ((client : ℕ) → is_stopped client told ≡ true → is_stopped client now ≡ true) → HoldersStopped (before ++ (told ++ left)) fulls
     → HoldersStopped (before ++ left) more → HoldersStopped ((before ++ now) ++ left) (fulls ++ more)
 holders_more before now told left fulls more f was new =

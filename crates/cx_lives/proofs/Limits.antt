@@ -16,7 +16,7 @@ use Rattle.life_records.specs.Records.{Cut, Life, Meaning}
 use Rattle.cx_lives.specs.Ends.{IsNewIn}
 use Rattle.cx_lives.specs.Life.{CanRun}
 
--- one cut more that is looked at
+-- the cuts from the i-th on are the i-th cut and those behind it
 cut_next : (client i : ℕ) (cuts : List Cut) (cut : Cut) → i < length cuts → cut ≡ get_or cuts i cut → drop i cuts ≡ cut ∷ drop (i + 1) cuts
 cut_next client i cuts cut within is =
     let next : suc i ≡ i + 1 = omega arith in

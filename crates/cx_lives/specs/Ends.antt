@@ -63,16 +63,17 @@ pub record IsCallerIn {O Op : Type 0} (life : Life Op) (r : Running O) (client :
   pub limit : seat.known.local.limit ≡ limit_in client life.cuts
   pub few : length seat.known.local.own ≤ length (own_ops client life.commands)
 
--- what a worker hands in
+-- what a worker hands in: its client's caller, and lines and an end that are right for what that caller did
 pub record IsWorkOf {O Op Reply Store : Type 0} (m : Meaning Op Reply Store) (life : Life Op) (r : Running O) (client : ℕ) (work : Work Reply) : Type 0 where
   pub caller : IsCallerIn life r client (seat_of work.handed)
   pub ends : IsEndOf m life client (seat_of work.handed).known.local work.lines.entries.items work.lines.reads.items work.end
 
--- the stop line of an end, and its full line
+-- the stop line of a client that was stopped, and none of another
 abbrev pub stop_in : End → List StopLine
 stop_in (Stopped line) = line ∷ []
 stop_in _ = []
 
+-- the full line of a client that ended Full, and none of another
 abbrev pub full_in : End → List FullLine
 full_in (Full line) = line ∷ []
 full_in _ = []

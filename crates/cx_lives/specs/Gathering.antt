@@ -37,11 +37,12 @@ pub record AreGathered {O Op Reply Store : Type 0} (m : Meaning Op Reply Store) 
   pub works : MatchBool g.ends.impossible (HasImpossibleEnd m life (locals_of (seats_of g.handed.items)))
       (AreWorks m.encoding life (locals_of (seats_of g.handed.items)) g.lines.entries.items g.lines.reads.items g.ends.stops.items g.ends.fulls.items)
 
+-- whether a worker ended since its caller has what none can have
 abbrev pub is_impossible : End → Bool
 is_impossible Impossible = true
 is_impossible _ = false
 
--- one client's work more
+-- the works of the clients before, with the work of the next client added
 pub record AddsWork {Reply : Type 0} (before after : GatheredWork Reply) (work : Work Reply) : Type 0 where
   pub handed : after.handed.items ≡ before.handed.items ++ work.handed ∷ []
   pub entries : after.lines.entries.items ≡ before.lines.entries.items ++ work.lines.entries.items

@@ -28,8 +28,8 @@ pub record CanRun {O Op Reply Store : Type 0} (m : Meaning Op Reply Store) (life
   pub limits : IsLifeInLimits m.is_op 8 life
   pub tickets : r.base.place + length life.commands ≤ 2 ^ 40
 
--- What is recorded of a life that ran, before the crash: the table that was closed with these seats tells it, and its lines
--- are those of the callers' lists.
+-- What is recorded of a life that ran, before the crash: the record agrees with the table that was closed with these seats, and its lines are those
+-- of the callers' lists.
 pub record HasRun {O Op Reply Store : Type 0} (m : Meaning Op Reply Store) (step : O → List ℕ → List ℕ → List ℕ × List ℕ) (reads : O → List ℕ → Bool) (life : Life Op) (r : Running O) (told : LifeRecord Reply) (remains : Remains) : Type 0 where
   -- the callers as they ended, with whom the service was closed
   pub seats : List Seated

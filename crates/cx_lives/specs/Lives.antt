@@ -181,11 +181,12 @@ pub record AreTold {Op Reply Store : Type 0} (m : Meaning Op Reply Store) (lines
   pub each : AreToldFrom m lines version is_lawful step reads (nothing_begun m) first lives records trails ends
   pub one : 0 < length lives → AreOneObject lines is_lawful step reads first (runs_of m lines version is_lawful step reads (nothing_begun m) first lives records trails ends each)
 
--- what the last of these crashes left, and what was recovered from it
+-- what the last of these crashes left
 abbrev pub last_image : Option Image → List LifeEnd → Option Image
 last_image so_far [] = so_far
 last_image so_far (end_ ∷ ends) = last_image (Some end_.image) ends
 
+-- the base that was recovered from what the last of these crashes left
 abbrev pub last_next : Option Base → List LifeEnd → Option Base
 last_next so_far [] = so_far
 last_next so_far (end_ ∷ ends) = last_next (Some end_.next) ends

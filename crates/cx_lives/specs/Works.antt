@@ -37,11 +37,12 @@ abbrev pub AreResultsFrom : {Done : Type 0} → (ℕ → Done → Type 0) → �
 AreResultsFrom IsOf client [] = Unit {0}
 AreResultsFrom IsOf client (work ∷ works) = IfOk work (IsOf client) × AreResultsFrom IsOf (client + 1) works
 
--- the stop line that a worker tells, and those of all
+-- the stop line in a worker's result, where its client was stopped
 abbrev pub stop_told : {Reply : Type 0} → Result (WorkerOutcome Reply) AllocError → List StopLine
 stop_told (Ok (Done work)) = stop_in work.end
 stop_told _ = []
 
+-- the stop lines in the results of workers, in order
 abbrev pub stops_left : {Reply : Type 0} → List (Result (WorkerOutcome Reply) AllocError) → List StopLine
 stops_left [] = []
 stops_left (work ∷ works) = stop_told work ++ stops_left works

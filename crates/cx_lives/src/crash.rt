@@ -32,8 +32,8 @@ pub struct Crashed {
     pub items: u64,
 }
 
-/// Ends a service of the object in a crash, once it was closed: from what it left, the choice, modulo the number of codes with which it
-/// ended, takes the one whose place ends what is kept. Recovers the base with which the next service begins. `Err` means out of memory.
+/// Ends a closed service of the object in a crash, and recovers the base with which the next service begins. The service ended with a chain of root codes;
+/// `choice`, modulo their number, picks the one that the crash leaves, whose place ends what is kept. `Err` means out of memory.
 pub fn end_in_crash<O: TypedObject>(
     alloc: Global,
     object: &O,
@@ -66,7 +66,7 @@ pub fn end_in_crash<O: TypedObject>(
     })
 }
 
-/// What a closed service left is whole. By each choice it may be read for the object, and is recovered unless memory runs out.
+/// The law that what a closed service leaves is whole, and that its image by each choice may be read for the object and is recovered unless memory runs out.
 fn closed_services_recover<O: TypedObject>(object: &O, base: &Base, remains: &Remains)
     requires { HasClosed O.Object object.now base.now remains.now }
     ensures whole { AreRemainsWhole remains.now }
@@ -77,10 +77,15 @@ fn closed_services_recover<O: TypedObject>(object: &O, base: &Base, remains: &Re
         IsRecovered (O.version_number object.now) (O.lawful object.now) (O.old_format object.now) image next →
         HasCrashed O.Object object.now base.now choice remains.now image next }
 {
+    // a closed service leaves all that a crash image is made of, and each image of it may be read for the object
     closed_tables_are_whole::<O>();
+    // recovery refuses no such image, unless memory runs out, and what it gives holds each answer
     closed_tables_recover::<O>();
+    // such an image has the object's own version, so nothing in it is upgraded
     closed_tables_stay::<O>();
+    // by each choice the image is a crash image of the state that was closed
     crash_images_are_left::<O>();
+    // what is recovered from a crash image is the full image after a place at or above DUR's
     crash_images_recover();
 }
 

@@ -18,7 +18,7 @@ use std::alloc::{AllocError, Global};
 use std::sync::Wait;
 use typed_object::TypedObject;
 
-/// The callers as they ended, and the lines of all.
+/// The works of the clients so far: their callers as they ended, the lines of all, and how those ended that did not make all their commands.
 #[derive(Drop)]
 pub(crate) struct GatheredWork<Reply> {
     pub(crate) handed: Vec<Handed>,
@@ -35,7 +35,7 @@ pub(crate) struct Ends {
 }
 
 impl<Reply: Drop> GatheredWork<Reply> {
-    /// With one client's work more.
+    /// Adds `work` of the next client: its caller, its lines and its end.
     fn with(self, work: Work<Reply>) -> Result<GatheredWork<Reply>, AllocError>
         ensures { IfOk result (λ after. AddsWork self after work) }
     {
@@ -53,7 +53,7 @@ impl<Reply: Drop> GatheredWork<Reply> {
     }
 }
 
-/// With one client's end more.
+/// The ends `before`, with the end of the next client added.
 fn with_end(before: Ends, end: End) -> Result<Ends, AllocError>
     ensures stops { IfOk result (λ r. r.stops.items ≡ before.stops.items ++ stop_in end) }
     ensures fulls { IfOk result (λ r. r.fulls.items ≡ before.fulls.items ++ full_in end) }
@@ -69,7 +69,7 @@ fn with_end(before: Ends, end: End) -> Result<Ends, AllocError>
     Ok(ends)
 }
 
-/// Puts the works of all clients together, in the order of the clients. One that was left goes on when it is its turn, and ends Full only
+/// Puts the works of all clients together, in the order of the clients. A client that its worker left goes on when it is its turn, and ends Full only
 /// where the client that keeps its cells was stopped. `Err` means out of memory, in a worker or here.
 pub(crate) fn finish_and_gather<O: TypedObject, R: Wait, G: Gate>(
     rt: &R,
@@ -85,7 +85,9 @@ pub(crate) fn finish_and_gather<O: TypedObject, R: Wait, G: Gate>(
     ensures stopped { IfOk result (λ g. All (λ line. is_stopped line.note.holder g.ends.stops.items ≡ true) g.ends.fulls.items) }
     ensures all { IfOk result (λ g. length g.handed.items ≡ vec_len works) }
 {
+    // no clients have no lines: what the loop begins with
     works_begin::<O::Op, O::Reply>();
+    // the next client's lines go behind those of all clients before it: one turn of the loop
     works_go_on::<O::Op, O::Reply>();
     let ends = Ends {
         stops: Vec::new(alloc),
@@ -123,8 +125,8 @@ pub fn first_of<T: Drop>(items: &mut Vec<T>) -> T
     items.remove(0)
 }
 
-/// The work of a client, which goes on where it was left. The clients with a stop line are those of these lines, and of the rest of the
-/// works.
+/// The whole work of a client: what its worker did, and, where the worker left it, its commands from there on. `stops` are the stop lines of the
+/// clients before it, and `rest` are the results of the workers of those after it.
 fn at_end<O: TypedObject, R: Wait, G: Gate>(
     rt: &R,
     alloc: Global,

@@ -28,7 +28,7 @@ use typed_object::TypedObject;
 ///
 /// The gate is for tests that bring about an order among the clients: each worker passes it before each of its commands and after it,
 /// also where the client was stopped or ended Full in that command, with the client's number, the number of the command among the
-/// client's, from 1 on, and which of the two it is. The gate holds a worker as long as its `pass` does not return. The record says what
+/// client's, from 1 on, and whether this is the pass after it. The gate holds a worker as long as its `pass` does not return. The record says what
 /// came, whatever the gate does. `OpenGate` holds none.
 ///
 /// `Err` means out of memory, in a worker or after them, and gives nothing back. There is no other refusal.
@@ -58,9 +58,11 @@ pub fn run_life<O: TypedObject + Sync, R: Threads + Wait + Sync, G: Gate + Sync>
         impossible,
     } = ends;
     entries.sort_unstable_by_key(|line| line.ticket);
+    // put by ticket, the lines are still those of the clients, and a record of them agrees with the service's history
     journals_are_told::<O::Op, O::Reply>();
     // a running table began from a lawful base
     let _lines = service.lines();
+    // the object's steps are what its operations mean
     object_is_meant(&service);
     let Ok(remains) = service.close(alloc, handed) else {
         return Err(AllocError);
@@ -84,7 +86,7 @@ pub fn run_life<O: TypedObject + Sync, R: Threads + Wait + Sync, G: Gate + Sync>
     Ok((told, remains))
 }
 
-/// The laws of a service's object.
+/// The law that the steps of the service's object are what its operations mean.
 fn object_is_meant<O: TypedObject>(service: &Service<O>)
     ensures { IsMeant O.Object service.now.object (O.meaning service.now.object) }
 {

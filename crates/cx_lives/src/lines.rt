@@ -1,4 +1,4 @@
-//! The lines that a client's worker notes of what it was answered.
+//! The lines that a client's worker writes, one for each answer to the client.
 
 ghost use Rattle.std.specs.Prelude.{◌≡◌, ◌++◌, IfOk, []};
 ghost use Rattle.cx_lives.specs.Lines.{AddsClientEntry, AddsClientRead};
@@ -18,7 +18,7 @@ pub struct Lines<Reply> {
 }
 
 impl<Reply> Lines<Reply> {
-    /// No lines.
+    /// Two empty lists: no entry and no read is answered yet.
     pub fn new(alloc: Global) -> Self
         ensures entries { result.entries.items ≡ [] }
         ensures reads { result.reads.items ≡ [] }
@@ -44,8 +44,8 @@ impl<Reply: Drop> Lines<Reply> {
     }
 }
 
-/// Notes the line of a client's entry that is answered at a ticket, as that of its command of this number. `false` where the words are of no
-/// reply. `Err` means out of memory.
+/// Adds the line of a client's entry that is answered at `ticket`, by its command of this number. `false` where the words are no reply: then no
+/// line is added. `Err` means out of memory.
 pub fn note_entry<O: TypedObject>(
     alloc: Global,
     object: &O,
@@ -69,8 +69,8 @@ pub fn note_entry<O: TypedObject>(
     Ok(true)
 }
 
-/// Notes the line of a client's read that is answered, at the place that its caller has seen, as that of its command of this number.
-/// `false` where the words are of no reply. `Err` means out of memory.
+/// Adds the line of a client's read that is answered at `place`, by its command of this number. `false` where the words are no reply: then no
+/// line is added. `Err` means out of memory.
 pub fn note_read<O: TypedObject>(
     alloc: Global,
     object: &O,

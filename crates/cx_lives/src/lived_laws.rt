@@ -24,9 +24,14 @@ pub(crate) fn lives_that_ran_have_lived<O: TypedObject>(object: &O, base: &Base)
         HasLivedOver O.Object object.now (O.meaning object.now) life begun base.now
         (record { told = flagged; trail = remains.trail; image = crashed.image; next = crashed.next }) }
 {
+    // each reply is the one-thread store's at its place, and a client's answers stand in rising places
     replies_are_the_stores(object, base);
+    // the recovered base keeps a prefix of the history with everything answered, and stands for the store after it
     kept_lives_go_on(object, base);
+    // the next life begins with the recovered base: its place and store, and each client's count of entries and last reply
     kept_bases_begin_the_next_life(object, base);
+    // each client has ended as a legal life says
     told_lives_have_ended::<O::Op, O::Reply>();
+    // the record stays right when its kept flags and its numbers of kept entries and items are filled in
     flags_may_be_set::<O::Op, O::Reply>();
 }

@@ -39,7 +39,7 @@ pub struct Lived<Reply> {
     pub base: Option<Base>,
 }
 
-/// The result of one life.
+/// The result of one life: its record, the trail of its service, the image that the crash left, and the base that was recovered from it.
 #[derive(Drop)]
 pub(crate) struct Ran<Reply> {
     pub(crate) told: LifeRecord<Reply>,
@@ -50,7 +50,7 @@ pub(crate) struct Ran<Reply> {
 
 /// Runs the lives of a script one after another, the first from the empty store and each next one from what was recovered after the
 /// crash that ended the one before. Each life is run as `run_life` runs it, with the same gate. Its service ended with a chain
-/// of codes; the life's choice, modulo their number, takes the one whose place ends what is kept. The record's stop lines say which
+/// of root codes; the life's choice, modulo their number, picks the one whose place ends what is kept. The record's stop lines show which
 /// stopped commands are among what was kept. The memory that the crash left is reopened (`reopen_image` of `recovery`): each
 /// replica is made the one that was recovered, and those are the words with which every replica of the next life begins.
 ///
@@ -117,7 +117,7 @@ pub fn run_next_life<O: TypedObject + Sync, R: Threads + Wait + Sync, G: Gate + 
         image,
         next,
     } = run_one(rt, alloc, object, &base, life, gate)?;
-    // by its laws the lives so far are one object with this one
+    // the object's steps are what its operations mean: so the lives so far and this one are lives of one object
     steps_are_meant(object);
     records.push(told)?;
     trails.push(trail)?;
@@ -129,7 +129,7 @@ pub fn run_next_life<O: TypedObject + Sync, R: Threads + Wait + Sync, G: Gate + 
     })
 }
 
-/// The base of a next life.
+/// The base of the next life: the one that was recovered last, and before the first life the object's first base. `Err` means out of memory.
 fn next_base<O: TypedObject>(
     alloc: Global,
     object: &O,
@@ -151,6 +151,7 @@ pub fn first_base<O: TypedObject>(alloc: Global, object: &O) -> Result<Base, All
     ensures place { IfOk result (λ base. base.place ≡ 0) }
 {
     let base = Base::fresh(alloc, object)?;
+    // the object's first base begins with nothing: no client has an entry before it
     fresh_bases_begin_with_nothing(object, &base);
     Ok(base)
 }
@@ -172,8 +173,11 @@ fn run_one<O: TypedObject + Sync, R: Threads + Wait + Sync, G: Gate + Sync>(
     let crashed = end_in_crash(alloc, object, base, life.choice(), &remains)?;
     let _memory = reopen_image(alloc, &crashed.image)?;
     let flagged = with_kept(told, crashed.kept, crashed.items);
+    // each operation of the life is a value of its type
     operations_are_values(object, life);
+    // each reply of the record is a value of its type
     replies_are_values(object, &flagged);
+    // the record is one of a legal life, and the recovered base begins the next one
     lives_that_ran_have_lived(object, base);
     Ok(Ran {
         told: flagged,
@@ -183,7 +187,7 @@ fn run_one<O: TypedObject + Sync, R: Threads + Wait + Sync, G: Gate + Sync>(
     })
 }
 
-/// The record with the numbers of entries kept and of items, and with the flags of its stop lines.
+/// The record `told` with its numbers of kept entries and of items filled in, and with the kept flag of each of its stop lines.
 fn with_kept<Reply: Drop>(told: LifeRecord<Reply>, kept: u64, items: u64) -> LifeRecord<Reply>
     ensures { HasFlags told kept items result }
 {

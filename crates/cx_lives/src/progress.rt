@@ -26,7 +26,7 @@ pub(crate) enum End {
     Stopped(StopLine),
     /// The client ended Full: another that was stopped keeps its cells.
     Full(FullLine),
-    /// What cannot be: there was no further ticket, or a reply whose words are of none.
+    /// What cannot be: there was no further ticket, or the words of an answer are no reply.
     Impossible,
 }
 
@@ -46,7 +46,7 @@ pub(crate) struct Progress<Reply> {
 }
 
 /// The result of a command: the client goes on, or it is at its end, or the command is not begun, since another caller keeps the
-/// client's cells, as the note says.
+/// client's cells, which the note names.
 #[derive(Drop)]
 pub(crate) enum CommandOutcome<Reply> {
     Next(Progress<Reply>),

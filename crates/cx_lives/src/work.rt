@@ -36,7 +36,7 @@ pub(crate) struct Left<Reply> {
 pub(crate) enum WorkerOutcome<Reply> {
     /// The client is at its end.
     Done(Work<Reply>),
-    /// The client's next command was last answered Full. The line is the one that it has where it ends Full.
+    /// The client's next command was last answered Full. The line is the full line that the client gets if it ends Full in that command.
     Full(Left<Reply>, FullLine),
 }
 
@@ -147,7 +147,7 @@ fn pass_behind<G: Gate, Reply>(gate: &G, client: u32, number: u64, turn: &Comman
 }
 
 /// Goes on with a client that was left, until it is at its end. It ends Full in a command only where the client that keeps its cells was
-/// stopped: where that has one of these stop lines or one in the rest of the works. `Err` means out of memory.
+/// stopped: where that client has a stop line in `stops` or in the rest of the works. `Err` means out of memory.
 pub(crate) fn go_on<O: TypedObject, R: Wait, G: Gate>(
     rt: &R,
     alloc: Global,
@@ -186,7 +186,7 @@ fn give_up<G: Gate, Reply: Drop>(gate: &G, left: Left<Reply>, line: FullLine) ->
     over(left.progress, End::Full(line))
 }
 
-/// Whether a client was stopped, as one of these lines says or the rest of the works.
+/// Whether a client was stopped: one of these stop lines is the client's, or the rest of the works has a stop line of the client.
 fn has_stopped<Reply>(
     stops: &[StopLine],
     rest: &[Result<WorkerOutcome<Reply>, AllocError>],

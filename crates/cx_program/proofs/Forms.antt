@@ -129,7 +129,7 @@ are_of_load words first second third has four one two three =
     let e3 : get_or (map string_bytes words) 3 (string_bytes third) ≡ string_bytes third = get_or-map string_bytes words 3 third ∙ ap string_bytes (sym three) in
     cc (are, e1, e2, e3)
 
--- and two are those of a pool
+-- two words that have the form of a command are `pool` and a word behind it
 pool_words : (words : List (List ℕ)) (seats : List ℕ) → HasForm words → length words ≡ 2 → words ≡ codes "pool" ∷ get_or words 1 seats ∷ []
 pool_words words seats has two = elim has.form [
   | inl lone ↦ absurd (omega (arith, two, ap length lone.2))

@@ -6,7 +6,7 @@ use Rattle.std.proofs.lemmas.List.{drop-drop}
 use Rattle.cx_base.specs.Outside.{Took}
 use Rattle.cx_program.specs.Input.{Moves, Moved}
 
--- these bytes are the front of all, and the rest is left
+-- `bytes` are the front of all bytes, and the rest of them is left
 pub record IsFront (all : List ℕ) (left : Option (List ℕ)) (bytes : List ℕ) : Type 0 where
   pub front : bytes ≡ take (length bytes) all
   pub rest : left ≡ Some (drop (length bytes) all)

@@ -56,12 +56,12 @@ plain (x ∷ xs) h = record { dashes = rw (h) refl; long = rw (h) refl; short = 
 nth_plain : (words : List (List ℕ)) → All IsPlain words → (i : ℕ) → i < length words → IsPlainWord (get_or words i [])
 nth_plain words are i lt = plain (get_or words i []) (are i [] lt)
 
--- and so is `load` with three words more
+-- the parser finds no fault in `load` with three words behind it that are no flags
 load_taken : (a b c : List ℕ) → IsPlainWord a → IsPlainWord b → IsPlainWord c → fault_of program (codes "load" ∷ a ∷ b ∷ c ∷ []) ≡ []
 unfolding clap_on_literals
 load_taken a b c p q r = rw (p.dashes, p.long, p.short, q.dashes, q.long, q.short, r.dashes, r.long, r.short) refl
 
--- and `pool` with one
+-- the parser finds no fault in `pool` with one word behind it that is no flag
 pool_taken : (a : List ℕ) → IsPlainWord a → fault_of program (codes "pool" ∷ a ∷ []) ≡ []
 unfolding clap_on_literals
 pool_taken a p = rw (p.dashes, p.long, p.short) refl
@@ -259,7 +259,7 @@ passes_only_forms (w ∷ rest) no_hyphen e =
       ]
     ]
 
--- and those of a command pass
+-- the parser finds no fault in a word alone that is a command
 lone_taken : (word : List ℕ) → IsLone word → fault_of program (word ∷ []) ≡ []
 lone_taken word (inl run) = subst (λ (w : List ℕ). fault_of program (w ∷ []) ≡ []) (sym run) run_taken
 lone_taken word (inr (inl image)) = subst (λ (w : List ℕ). fault_of program (w ∷ []) ≡ []) (sym image) image_taken
@@ -283,7 +283,7 @@ none_among : (kind : ErrorKind) (kinds : Kinds) → kinds ≡ [] → IsAmong kin
 none_among kind [] none among = among
 none_among kind (k ∷ kinds) none among = cc
 
--- so that words of which a fault has another kind than want of memory are not those of a command
+-- words in which the parser finds a fault of another kind than that memory ran out are not those of a command
 pub refused_has_no_form : (words : List (List ℕ)) (kind : ErrorKind) → (kind ≡ OutOfMemory) ⊎ IsAmong kind (fault_of program words) → (kind ≡ OutOfMemory → ⊥) → HasForm words → ⊥
 refused_has_no_form words kind (inl memory) other has = other memory
 refused_has_no_form words kind (inr among) other has = none_among kind _ (forms_pass words has.plain has.form) among

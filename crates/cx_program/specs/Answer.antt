@@ -22,7 +22,7 @@ pub record Owes (command : CommandMeaning) (input : List ℕ) (status : Status) 
   pub long : 16777216 < length input → text ≡ too_long_text
   pub short : length input ≤ 16777216 → command.writes input status trails text
 
--- What words and input call for. The input is what the source told, where it told one, and empty for a command that reads nothing.
+-- What words and input call for. The input is what the source had left, where contracts see it, and empty for a command that reads nothing.
 pub record Owed (words : List (List ℕ)) (told : Option (List ℕ)) (status : Status) (trails : List Ending) (text : List ℕ) : Type 0 where
   pub asked : Option AskedCommand
   pub asks : (command_asked asked).asked words
@@ -50,7 +50,7 @@ IsWrittenWith words told Memory trails before after = after ≡ before
 IsWrittenWith words told WriteFault trails before after = (text : List ℕ) × IsOwed words told text × AppendsFront text before after
 IsWrittenWith words told status trails before after = (text : List ℕ) × Owed words told status trails text × Appends text before after
 
--- what faults a status tells of
+-- what caused a status: the count of the source's faults rose, or that of the sink's
 abbrev pub HasCause : Status → ℕ → ℕ → ℕ → ℕ → Type 0
 HasCause ReadFault reads reads' writes writes' = Rose reads reads'
 HasCause WriteFault reads reads' writes writes' = Rose writes writes'

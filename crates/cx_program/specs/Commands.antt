@@ -20,7 +20,8 @@ use Rattle.cx_program.specs.declared.asked.AskedCommand.TheVariants.{Run, Image,
 use Rattle.cx_program.specs.declared.status.Status.{Status}
 use Rattle.cx_program.specs.declared.status.Status.TheVariants.{Fine, Usage, Refused}
 
--- What words can ask for. An input calls for one status, with which a text is written that tells of the lives that left these trails.
+-- What a command is: the words that ask for it, whether it reads an input, the status that an input calls for, and the text that is written with it and
+-- with the trails of the lives that were run.
 pub record CommandMeaning : Type 1 where
   pub asked : List (List ℕ) → Type 0
   pub reads : Bool
@@ -28,19 +29,19 @@ pub record CommandMeaning : Type 1 where
   pub writes : List ℕ → Status → List Ending → List ℕ → Type 0
 
 module _ {Script : Type 0} (Is : List ℕ → Script → Type 0) where
-  -- what is a script, or a trace, is told of, and what is none is refused
+  -- the status that an input calls for: `Fine` where it is a script, or a trace, and `Refused` where it is none
   abbrev pub script_calls : List ℕ → Status → Type 0
   script_calls input Fine = (script : Script) × Is input script
   script_calls input Refused = (script : Script) → Is input script → ⊥
   script_calls input _ = ⊥
 
-  -- the text tells this of what the input is, and of lives that left these trails, or it refuses what is none
+  -- the text that is written: by `Tells` for the script that the input is and for these trails, and by `Refuses` for an input that is no script
   abbrev pub script_writes : (List ℕ → List ℕ → Type 0) → (Script → List Ending → List ℕ → Type 0) → List ℕ → Status → List Ending → List ℕ → Type 0
   script_writes Refuses Tells input Fine trails text = (script : Script) × Is input script × Tells script trails text
   script_writes Refuses Tells input Refused trails text = Refuses input text
   script_writes Refuses Tells input _ trails text = ⊥
 
--- `run` tells of all lives in a report
+-- `run` writes a report of all lives of a script
 abbrev pub run_command : CommandMeaning
 run_command = record {
   asked = IsAlone (codes "run");
@@ -58,7 +59,7 @@ image_command = record {
   writes = script_writes IsScript (IsRefusalText document_grammar reason_text) IsLastImage;
 }
 
--- `fifo` tells of all lives of a queue in a report
+-- `fifo` writes a report of all lives of a queue
 abbrev pub fifo_command : CommandMeaning
 fifo_command = record {
   asked = IsAlone (codes "fifo");
@@ -67,7 +68,7 @@ fifo_command = record {
   writes = script_writes IsFifoScript (IsRefusalText queue_grammar queue_reasons.queue_reason_text) IsFifoReport;
 }
 
--- `trace` tells what is found of a recorded trace; no life is run
+-- `trace` writes the verdict on a recorded trace; no life is run
 abbrev pub trace_command : CommandMeaning
 trace_command = record {
   asked = IsAlone (codes "trace");
@@ -76,7 +77,7 @@ trace_command = record {
   writes = script_writes IsTrace IsTraceRefusal (λ trace trails text. IsTraceVerdict trace text × (trails ≡ []));
 }
 
--- `recover` tells what is recovered from an image, or refuses the image, or what is none; no life is run
+-- `recover` writes what is recovered from an image, or refuses the image, or an input that is no image text; no life is run
 abbrev pub recover_command : CommandMeaning
 recover_command = record {
   asked = IsAlone (codes "recover");
@@ -85,7 +86,7 @@ recover_command = record {
   writes = λ input status trails text. (end : ImageEnd) × Writes input end text × (status ≡ status_of end) × (trails ≡ []);
 }
 
--- `load` makes a script, and runs it
+-- `load` makes a script, runs it, and writes four lines on it; it reads no input
 abbrev pub load_command : ℕ → ℕ → ℕ → CommandMeaning
 load_command from clients ops = record {
   asked = IsLoadOf from clients ops;
@@ -94,7 +95,7 @@ load_command from clients ops = record {
   writes = λ input status trails text. IsSummary from clients ops trails text;
 }
 
--- `pool` tells in a report of a life whose clients share this many callers
+-- `pool` writes a report of a life whose clients share this many callers
 abbrev pub pool_command : ℕ → CommandMeaning
 pool_command seats = record {
   asked = IsPoolOf seats;
@@ -103,6 +104,7 @@ pool_command seats = record {
   writes = script_writes IsPoolScript (IsRefusalText pool_grammar reason_text) (IsPoolReport seats);
 }
 
+-- the meaning of each command
 abbrev pub command : AskedCommand → CommandMeaning
 command Run = run_command
 command Image = image_command
@@ -112,7 +114,7 @@ command Trace = trace_command
 command (Load load) = load_command load.from load.clients load.ops
 command (Pool seats) = pool_command seats.count
 
--- words that ask for none of these are told which there are
+-- where words ask for none of these commands, the text lists the commands
 abbrev pub usage_command : CommandMeaning
 usage_command = record {
   asked = λ words. (asked : AskedCommand) → (command asked).asked words → ⊥;

@@ -8,7 +8,7 @@ use Rattle.cx_base.specs.declared.outside.Source.{Ghosts}
 use Rattle.cx_program.specs.declared.input.Input.{Input}
 use Rattle.cx_program.specs.declared.input.Input.TheVariants.{Whole, TooLong, Failed}
 
--- the bytes are an input: what the source had left, where it told that; nothing where no input is read
+-- the bytes are an input: what the source had left, where contracts see that; nothing where no input is read
 abbrev pub IsInput : Bool → Option (List ℕ) → List ℕ → Type 0
 IsInput true told input = IfSome told (λ all. input ≡ all)
 IsInput false told input = input ≡ []

@@ -72,18 +72,18 @@ impl Seats {
 /// A command that words ask for.
 #[derive(Drop)]
 pub(crate) enum AskedCommand {
-    /// That a script is run, and reported.
+    /// `run`: a script is run, and its report is written.
     Run,
-    /// That a script is run, and what the last crash left is written.
+    /// `image`: a script is run, and the image that the last crash left is written.
     Image,
-    /// That it is told what is recovered from an image.
+    /// `recover`: what is recovered from an image is written.
     Recover,
-    /// That a script of a queue is run, and reported.
+    /// `fifo`: a script of a queue is run, and its report is written.
     Fifo,
-    /// That it is told whether a recorded trace is a run.
+    /// `trace`: the verdict on a recorded trace is written: whether it is a run.
     Trace,
-    /// That a script is made and run.
+    /// `load` with three numbers: a script is made and run, and four lines on it are written.
     Load(Load),
-    /// That a script is run whose clients share this many callers, and reported.
+    /// `pool` with a number: a script is run whose clients share this many callers, and its report is written.
     Pool(Seats),
 }

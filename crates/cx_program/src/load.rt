@@ -1,4 +1,4 @@
-//! The command `load`: a script that is made and run, and told of in four lines.
+//! The command `load`: a script that is made and run, of which four lines are written.
 
 ghost use Rattle.std.specs.Prelude.{◌≡◌, IfOk};
 ghost use Rattle.doc_commands.specs.ScriptTexts.{IsSummary};

@@ -1,4 +1,4 @@
-//! Standard input and output as a source and a sink. They tell no bytes: what they do is trusted.
+//! Standard input and output as a source and a sink. Contracts see none of their bytes: what they do is trusted.
 
 ghost use Rattle.std.specs.Prelude.{◌≡◌, None};
 
@@ -47,7 +47,7 @@ impl<R: Read + Drop> Source for StdSource<R> {
     }
 }
 
-/// A writer as a sink. Each of its errors is a fault, and so is a write that takes nothing.
+/// A writer as a sink. Each of its errors is a fault, and each write that takes no byte is a fault.
 #[derive(Drop)]
 pub struct StdSink<W: Write + Drop> {
     pub writer: W,

@@ -27,11 +27,11 @@ const USAGE: &[u8] =
     b"usage: cx_tool run | image | recover | load FROM CLIENTS OPS | pool SEATS | fifo | trace\n";
 
 /// Runs the command that the words name. With `run` it reads a script from the source, runs its lives and writes the
-/// report, with `image` the image that the last crash left; with `recover` it reads such an image, and tells what is recovered
+/// report, with `image` the image that the last crash left; with `recover` it reads such an image, and writes what is recovered
 /// from it; with `fifo` it reads a script of a queue, runs its lives and writes their report; with `trace` it reads a recorded trace,
-/// and tells whether it is a run or which line is the first that fails; with `pool` and a number it reads a script whose clients share this
-/// many callers, runs its life and writes the report; with `load` and three numbers it makes a script, runs it and tells of it in four lines,
-/// and nothing is read. A text that says why is written in its place where the words or the input are refused.
+/// and writes whether it is a run or which line is the first that fails; with `pool` and a number it reads a script whose clients share this
+/// many callers, runs its life and writes the report; with `load` and three numbers it makes a script, runs it and writes four lines on it,
+/// and reads nothing. Where the words or the input are refused, the text that is written names the reason.
 /// The whole text is made before its first byte is written. Every outcome is a status. It may wait.
 pub fn cx_run<R: Threads + Wait + Sync, S: Source, K: Sink, G: Gate + Sync>(
     rt: &R,
@@ -47,7 +47,7 @@ pub fn cx_run<R: Threads + Wait + Sync, S: Source, K: Sink, G: Gate + Sync>(
     // `fifo` the report of legal lives of a queue, each witnessed by such a log; for `pool` the report of a pool life of the script that the input
     // is, witnessed by the execution log of the service whose callers the clients shared; for `trace` the one verdict that is of the trace.
     ensures answer { IsWrittenWith (map string_bytes words.now) (S.left source.old) result.status result.trails (K.written sink.old) (K.written sink.new) }
-    // A fault is told only where the object that was handed in counted one.
+    // The status names a fault of the source or of the sink only where the count of faults of that object rose in this call.
     ensures cause { HasCause result.status (S.faults source.old) (S.faults source.new) (K.faults sink.old) (K.faults sink.new) }
     ensures drawn { Draws S.Source 16777217 source.old source.new }
     ensures unread { (Read (map string_bytes words.now) → ⊥) → source.new ≡ source.old }

@@ -27,7 +27,7 @@ HasLineNumbers line = (line.ticket < 2 ^ 64) × (line.client < 2 ^ 64) × (line.
 abbrev pub bare : JournalLine Reply → JournalLine Reply
 bare line = record line { reply = None }
 
--- A line whose command the life has. Its reply, if it tells one, is that of the store before it.
+-- A line whose command the life has. Its reply, if it has one, is that of the store before it.
 pub record IsTold (lines : ℕ) (store : RevisedStore) (life : Life Op) (line : JournalLine Reply) : Type 0 where
   pub op : Op
   pub is : named_op life line.client line.command ≡ Some op
@@ -35,7 +35,7 @@ pub record IsTold (lines : ℕ) (store : RevisedStore) (life : Life Op) (line : 
   pub plain : IsPlain (reply_to lines store op)
   pub numbers : HasLineNumbers line
 
--- such lines, one after another
+-- the lines of a journal, one after another: each is right for the store that the lines before it lead to
 abbrev pub AreTold : ℕ → RevisedStore → Life Op → List (JournalLine Reply) → Type 0
 AreTold lines store life [] = Unit {0}
 AreTold lines store life (line ∷ journal) =
@@ -150,7 +150,7 @@ no_line life line x y numbers outside e =
     number_outside line.ticket (32 ∷ (decimal line.client ++ 46 ∷ (decimal line.command ++ 32 ∷ answer_end life line x))) y numbers.0 outside
     (sym (journal_text-append life line x) ∙ e)
 
--- journals with the same text, told from one store on, are the same but for replies, and so is what follows
+-- two journals with the same text, right from one store on, are the same but for replies, and the texts behind them are the same
 pub same_journals : (lines : ℕ) (store : RevisedStore) (life : Life Op) (a b : List (JournalLine Reply)) (x y : List ℕ)
     → AreTold lines store life a → AreTold lines store life b → BeginsOutside x → BeginsOutside y
     → flat_map (journal_text document_wording life) a ++ x ≡ flat_map (journal_text document_wording life) b ++ y → (map bare a ≡ map bare b) × (x ≡ y)

@@ -202,7 +202,7 @@ same_parts : (a b : LifeRecord Reply) → a.clients ≡ b.clients → a.from ≡
 same_parts a b clients from journal reads stops fulls choice kept items =
     λ i. record { clients = clients i; from = from i; journal = journal i; reads = reads i; stops = stops i; fulls = fulls i; choice = choice i; kept = kept i; items = items i }
 
--- records with the same text, legal at one place with one store, are the same, and so is what follows
+-- two records with the same text, legal at one place with one store, are the same, and the texts behind them are the same
 same_record : (number lines place : ℕ) (store : RevisedStore) (life : Life Op) (a b : LifeRecord Reply) (x y : List ℕ) → IsRevisedStore store → AreOps life
     → IsLegalLife (document_meaning lines) place store life a → IsLegalLife (document_meaning lines) place store life b → HasNumbers a → HasNumbers b
     → record_text document_wording number life a ++ x ≡ record_text document_wording number life b ++ y → (a ≡ b) × (x ≡ y)

@@ -123,7 +123,7 @@ answers_one image (Err f) (Ok b) x y some more = absurd (tells_nothing image f x
 answers_one image (Err f) (Err g) x y some more =
     ap Err (document_fault_one image f g x (λ e. some (ap Err e)) y (λ e. more (ap Err e)))
 
--- its object part is an image of documents
+-- the object part of a base that is recovered is an image of documents
 pub part_is_image : (image : Image) (base : Base) → 1168 ≤ length (region_of image) → IsRecovered 2 (IsImageOfStore image.lines) (first_format image.lines) image base
     → IsImageOfStore image.lines (object_part base.words)
 part_is_image image base long is =

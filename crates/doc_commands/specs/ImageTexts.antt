@@ -23,14 +23,15 @@ fault_text (Place root region) = codes "place " ++ decimal root ++ codes " " ++ 
 fault_text Body = codes "body"
 fault_text Memory = []
 
--- what is written of an image that is refused, and of a text that is no image text
+-- the text on an image that is refused, by its fault
 abbrev pub bad_image_text : ImageFault → List ℕ
 bad_image_text fault = codes "image refused: " ++ fault_text fault ++ codes "\n"
 
+-- the text on bytes that are no image text, by the first line at fault and the reason
 abbrev pub bad_line_text : ℕ → ImageReason → List ℕ
 bad_line_text line reason = codes "refused line " ++ decimal line ++ codes ": " ++ image_reason_text reason ++ codes "\n"
 
--- The text tells what is recovered from the image that the input says.
+-- The text is that of what is recovered from the image in the input.
 pub record IsRecoveredText (input text : List ℕ) : Type 0 where
   pub image : Image
   pub read : IsImageText input image
@@ -38,7 +39,7 @@ pub record IsRecoveredText (input text : List ℕ) : Type 0 where
   pub is : IsRecoveredOf image found
   pub told : text ≡ recovered_text found
 
--- The text names the first check that the image that the input says does not pass, with what was found there.
+-- The text names the first check that the image in the input does not pass, with what was found there.
 pub record IsRefusedImage (input text : List ℕ) : Type 0 where
   pub image : Image
   pub read : IsImageText input image
@@ -54,13 +55,13 @@ pub record IsRefusedText (input text : List ℕ) : Type 0 where
   pub first : IsImageFault input (RefusedLine line reason)
   pub refusal : text ≡ bad_line_text line reason
 
--- which end an input has
+-- how the answer to an input ends: with what was recovered, with the refusal of the image, or with that of an input that is no image text
 abbrev pub HasEnd : List ℕ → ImageEnd → Type 0
 HasEnd input Fine = (image : Image) × IsImageText input image × TellsDocuments image
 HasEnd input BadImage = (image : Image) × IsImageText input image × (¬ TellsDocuments image)
 HasEnd input Refused = (image : Image) → ¬ IsImageText input image
 
--- what is written of an input with its end
+-- the text of the answer to an input, by its end
 abbrev pub Writes : List ℕ → ImageEnd → List ℕ → Type 0
 Writes input Fine text = IsRecoveredText input text
 Writes input BadImage text = IsRefusedImage input text

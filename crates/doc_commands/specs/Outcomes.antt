@@ -1,4 +1,4 @@
--- The clients' last commands, as the slots of a region tell them.
+-- The clients' last commands, read from the slots of a region.
 use Rattle.std.specs.Prelude.{◌≡◌, ◌≢◌, ◌<◌, ℕ, Bool, nat_lt, All, List, filter, map, Option, None, Some}
 use Rattle.std.specs.List.{range_with_len}
 use Rattle.cx_core.specs.Region.{slot_number, slot_reply}
@@ -46,16 +46,19 @@ TellsSlot client region (Some applied) = (applied.client ≡ client) × (slot_nu
 
 -- ---- faults: words of no reply, or out of memory
 
+-- why there is no reply: the words are those of none, or memory ran out
 abbrev pub IsReplyFault : List ℕ → ImageFault → Type 0
 IsReplyFault words Body = AreOfNoReply words
 IsReplyFault words Memory = Unit {0}
 IsReplyFault words _ = ⊥
 
+-- why a client's slot is refused: it has a number, and words of no reply; or memory ran out
 abbrev pub IsSlotFault : ℕ → List ℕ → ImageFault → Type 0
 IsSlotFault client region Body = (slot_number client region ≢ 0) × AreOfNoReply (slot_reply client region)
 IsSlotFault client region Memory = Unit {0}
 IsSlotFault client region _ = ⊥
 
+-- why the slots of a region are refused: one with a number holds no reply, or memory ran out
 abbrev pub IsOutcomesFault : List ℕ → ImageFault → Type 0
 IsOutcomesFault region Body = ¬ HoldsStoreReplies region
 IsOutcomesFault region Memory = Unit {0}

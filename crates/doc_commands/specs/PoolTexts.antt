@@ -1,4 +1,4 @@
--- The record of a script of a pool, and the text that tells of it.
+-- The record of a script of a pool, and the texts on it.
 use Rattle.std.specs.Prelude.{◌≡◌, ◌≤◌, ℕ, Bool, List, [], ◌∷◌}
 use Rattle.table_invariant.specs.Ending.{Ending}
 use Rattle.cx_table.specs.declared.remains.Remains.{Remains}

@@ -1,4 +1,4 @@
--- The records of a script, and the texts that tell of them.
+-- The records of a script, and the texts on them.
 use Rattle.std.specs.Prelude.{◌≡◌, ℕ, List, [], ◌∷◌, Option, Some, None}
 use Rattle.cx_core.specs.declared.entry.Base.{Base}
 use Rattle.cx_core.specs.declared.entry.Image.{Image}
@@ -18,7 +18,7 @@ use Rattle.doc_text.specs.Generated.{generated_life, generated_script}
 use Rattle.doc_text.specs.Report.{document_report_of}
 use Rattle.doc_text.specs.Summary.{summary_text}
 
--- lives of documents in this many lines, as `HaveLived` says it
+-- `HaveLived` for lives of documents in this many lines
 abbrev pub HaveStoresLived : ℕ → List (Life Op) → Lived Reply → Type 0
 HaveStoresLived lines = HaveLived (document_meaning lines) lines 2 (IsImageOfStore lines) (store_step lines) reads_in
 

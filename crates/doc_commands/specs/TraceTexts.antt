@@ -1,4 +1,4 @@
--- What is found of a trace over documents, and the text that tells it.
+-- The verdict on a trace over documents, and its text.
 use Rattle.std.specs.Prelude.{◌≡◌, ℕ, List, ◌++◌, codes}
 use Rattle.std.specs.Fmt.{decimal}
 use Rattle.cx_core.specs.Base.{fresh_region}
@@ -24,16 +24,17 @@ pub record IsVerdictFrom (base : Base) (trace : Trace) (verdict : Verdict) : Typ
   pub found : IsOnlyFound trace.lines 2 (IsImageOfStore trace.lines) (documents_from trace.callers trace.lines base) (opening_state trace.callers base) trace.steps verdict
   pub safe : OnYes verdict (IsSafeTrace trace.lines (IsImageOfStore trace.lines) (documents_from trace.callers trace.lines base) (opening_state trace.callers base) trace.steps)
 
--- what a verdict says, and as a text
+-- a verdict as a line without its end
 abbrev pub found_text : Verdict → List ℕ
 found_text (Yes events crashes) = codes "yes events " ++ decimal events ++ codes " crashes " ++ decimal crashes
 found_text (Guard line) = codes "no line " ++ decimal line ++ codes ": guard"
 found_text (Place line found) = codes "no line " ++ decimal line ++ codes ": place " ++ decimal found
 
+-- a verdict as a text of one line
 abbrev pub verdict_text : Verdict → List ℕ
 verdict_text verdict = found_text verdict ++ codes "\n"
 
--- The text tells the verdict that is of the trace, from the base with which a service of documents opens anew.
+-- The text is that of the trace's one verdict, from the base with which a service of documents opens anew.
 pub record IsTraceVerdict (trace : Trace) (text : List ℕ) : Type 0 where
   pub verdict : Verdict
   pub is : IsVerdictFrom (fresh_base trace.lines) trace verdict

@@ -15,7 +15,7 @@ use std::alloc::{AllocError, Global};
 /// How an answer ends.
 #[derive(Clone, Copy, Debug, PartialEq, Eq)]
 pub enum ImageEnd {
-    /// The text tells what was recovered.
+    /// The image was recovered, and the text shows what of.
     Fine,
     /// The bytes are no image text.
     Refused,
@@ -23,19 +23,19 @@ pub enum ImageEnd {
     BadImage,
 }
 
-/// A whole text, and with which end it is written.
+/// The answer to bytes: how it ends, and its whole text.
 #[derive(Drop)]
 pub struct ImageAnswer {
     pub end: ImageEnd,
     pub text: Vec<u8>,
 }
 
-/// The answer to bytes: what is recovered from the image that they say, or the check that it does not pass, or the first line with which
-/// they say none. `Err` means out of memory.
+/// Answers bytes that may be an image text: by what is recovered from the image, by the check that the image does not pass, or by the first line at
+/// which the bytes are no image text. `Err` means out of memory.
 pub fn answer_image(alloc: Global, bytes: &[u8]) -> Result<ImageAnswer, AllocError>
-    // The bytes have the one end that is told.
+    // `answer.end` is the one end that an answer to these bytes has.
     ensures ends { IfOk result (λ answer. HasEnd bytes.now answer.end) }
-    // What is written is the text that they call for with it.
+    // `answer.text` is the text that belongs to these bytes and this end.
     ensures writes { IfOk result (λ answer. Writes bytes.now answer.end answer.text.items) }
 {
     match read_image(alloc, bytes) {
@@ -51,7 +51,7 @@ pub fn answer_image(alloc: Global, bytes: &[u8]) -> Result<ImageAnswer, AllocErr
     }
 }
 
-/// The answer to bytes that say this image.
+/// The answer to bytes that are the text of this image.
 fn answer_of(alloc: Global, image: &Image) -> Result<ImageAnswer, AllocError>
     requires { IsReadable image.now.lines image.now }
     ensures { (input : List ℕ) → IsImageText input image.now → IfOk result (λ answer. HasEnd input answer.end × Writes input answer.end answer.text.items) }
@@ -74,7 +74,7 @@ fn answer_of(alloc: Global, image: &Image) -> Result<ImageAnswer, AllocError>
     }
 }
 
-/// No bytes have two ends.
+/// The law that the answers to the same bytes have the same end.
 pub fn ends_are_one()
     ensures { (input : List ℕ) (one other : ImageEnd) → HasEnd input one → HasEnd input other → one ≡ other }
 {}

@@ -36,7 +36,7 @@ pub(crate) fn image_refusal(alloc: Global, fault: ImageFault) -> Result<Vec<u8>,
     Ok(out)
 }
 
-/// After an `Err` what is written is of no use.
+/// Writes the text of a fault behind what `out` has. After an `Err`, `out` may have any bytes there.
 fn write_fault(out: &mut Vec<u8>, fault: ImageFault) -> Result<(), AllocError>
     ensures written { OnOk result (out.new.items ≡ out.old.items ++ fault_text fault) }
     ensures some { OnOk result (fault ≢ Memory) }

@@ -30,7 +30,7 @@ pub fn image_of_script<R: Threads + Wait + Sync, G: Gate + Sync>(
     Ok((text, lived.trails))
 }
 
-/// The text of an image, if there is one.
+/// The text of an image, and no text where there is no image.
 fn text_left(alloc: Global, image: &Option<Image>) -> Result<Vec<u8>, AllocError>
     ensures { IfOk result (λ text. text.items ≡ text_left image.now) }
 {

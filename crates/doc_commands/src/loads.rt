@@ -1,4 +1,4 @@
-//! A load: a script that is made and run, and told of in four lines.
+//! A load: a script that is made and run, of which four lines are printed.
 
 ghost use Rattle.std.specs.Prelude.{◌≡◌, [], ◌∷◌, IfOk};
 ghost use Rattle.cx_core.specs.Base.{LawfulBase};
@@ -41,7 +41,7 @@ pub fn summary_of_load<R: Threads + Wait + Sync, G: Gate + Sync>(
     Ok((text, lived.trails))
 }
 
-/// The lines on the life of a load.
+/// The four lines on the life of a load: the text of its record and of the store that the life left.
 fn text_of_life(
     alloc: Global,
     from: u64,

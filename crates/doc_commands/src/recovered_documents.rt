@@ -31,7 +31,7 @@ pub fn recovered(alloc: Global, image: &Image) -> Result<Recovered, ImageFault>
     told_by(alloc, &base)
 }
 
-/// What a base tells of documents.
+/// What a base holds of documents: its place, the last command of each client with a number, and the store's pairs.
 fn told_by(alloc: Global, base: &Base) -> Result<Recovered, ImageFault>
     requires words { OBJECT_START ≤ length base.now.words }
     requires lawful { (lines : ℕ) × IsImageOfStore lines (object_part base.now.words) }
@@ -59,12 +59,12 @@ fn pairs_of(alloc: Global, base: &Base) -> Result<Vec<Pair>, AllocError>
     documents(alloc, part)
 }
 
-/// The law that there is one answer for each image, unless memory runs out.
+/// The law that two answers to the same image are the same, unless memory runs out.
 pub fn answers_are_one()
     ensures { (image : Image) (one other : Result Recovered ImageFault) → IsAnswerTo image one → IsAnswerTo image other → one ≢ Err Memory → other ≢ Err Memory → one ≡ other }
 {}
 
-/// The law that of an image of version 1 are recovered the pairs that it stands for, each with revision 1.
+/// The law that from an image of version 1 those pairs are recovered that the image stands for, each with revision 1.
 pub fn old_pairs_have_first_revisions()
     ensures { (image : Image) (found : Recovered) (store : Store) → IsRecoveredOf image found → StandsFor (object_part (region_of image)) 1 store → found.documents ≡ (first_revisions store).triples }
 {}

@@ -30,7 +30,7 @@ pub(crate) fn outcomes_of(alloc: Global, base: &Base) -> Result<Items<Applied>, 
     Ok(outcomes)
 }
 
-/// The last command of a client, where the client has a number.
+/// The last command of a client; `None` where no command of the client was ever applied.
 fn last_command(alloc: Global, base: &Base, client: u32) -> Result<Option<Applied>, ImageFault>
     requires client { client < 8 }
     requires words { OBJECT_START ≤ length base.now.words }
@@ -49,7 +49,7 @@ fn last_command(alloc: Global, base: &Base, client: u32) -> Result<Option<Applie
     }
 }
 
-/// The reply that has these words. `Body` comes exactly where none has them.
+/// The reply that these words are. `Body` comes exactly where they are the words of no reply of documents.
 fn read_reply(alloc: Global, words: &OpWords) -> Result<Reply, ImageFault>
     ensures { MatchResult result (IsReplyOf words.now) (IsReplyFault words.now) }
 {

@@ -11,7 +11,7 @@ use std::alloc::{AllocError, Global};
 use trace_check::{Verdict, check_trace};
 use trace_text::Trace;
 
-/// The text that tells what is found of a trace. `Err` means out of memory.
+/// The text of the verdict on a trace. `Err` means out of memory.
 pub fn verdict_of_trace(alloc: Global, trace: &Trace) -> Result<Vec<u8>, AllocError>
     requires { IsTraceWithin trace.now }
     ensures { IfOk result (λ text. IsTraceVerdict trace.now text.items) }
@@ -32,7 +32,7 @@ fn text_of(alloc: Global, verdict: Verdict) -> Result<Vec<u8>, AllocError>
     Ok(out)
 }
 
-/// After an `Err` what is written is of no use.
+/// Writes the text of a verdict behind what `out` has. After an `Err`, `out` may have any bytes there.
 fn write_found(out: &mut Vec<u8>, verdict: Verdict) -> Result<(), AllocError>
     ensures { OnOk result (out.new.items ≡ out.old.items ++ found_text verdict) }
 {

@@ -311,7 +311,7 @@ why : (text : Option (List ℕ)) (reason : Reason) → asked_op text ≡ Err rea
 why None reason e = ap Some cc
 why (Some text) reason e = verb_why (verb_of (first_word text)) (rest_of text) reason e
 
--- they are, whatever scripts may have
+-- the commands on documents are read by their rules, whatever limits scripts have
 reads_in : (limits : ScriptLimits) (reason : ScriptReason → Reason) → limits.clients < 2 ^ 64 → limits.lives ≤ 1000 → ReadsCommands (commands_in limits reason) asked_op
 reads_in limits reason clients lives = record {
   clients = clients;

@@ -40,11 +40,12 @@ ReadsItems depth tokens rest m = (ds : Items) × (converted of_items (items (val
 abbrev pub HasNoItems : ℕ → List Token → Type 0
 HasNoItems depth tokens = converted of_items (items (value depth) (length tokens) tokens) ≡ None
 
--- and of the members of an object
+-- at the front of these tokens stand the members of an object, to its end, with this measure, and the rest is left
 abbrev pub ReadsMembers : ℕ → List Token → List Token → Measure → Type 0
 ReadsMembers depth tokens rest m =
     (ms : Members) × (converted (λ found. of_members found no_members) (members (value depth) (length tokens) tokens) ≡ Some (ms, rest)) × IsMeasure m (object ms)
 
+-- at the front of these tokens stand no members of an object
 abbrev pub HasNoMembers : ℕ → List Token → Type 0
 HasNoMembers depth tokens = converted (λ found. of_members found no_members) (members (value depth) (length tokens) tokens) ≡ None
 

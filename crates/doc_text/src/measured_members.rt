@@ -11,7 +11,7 @@ use std::collections::BTreeMap;
 /// The text of an object with this many keys is longer than a document.
 const MANY: usize = 256;
 
-/// The members of an object so far. Of many it is noted only that they are many, and that no value has a fraction.
+/// The members of an object so far. Of many members only this is kept: that they are many, and that no value has a fraction.
 #[derive(Drop)]
 pub(crate) struct MeasuredMembers {
     members: BTreeMap<String, Measure>,

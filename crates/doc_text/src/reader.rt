@@ -17,12 +17,12 @@ use std::alloc::Global;
 /// Reads a script. It is Ok exactly for the texts of scripts, unless memory runs out. Other texts are refused by
 /// the first line with which the lines so far are no script.
 pub fn read_script(alloc: Global, bytes: &[u8]) -> Result<Script, TextFault>
-    // What is read is what the text says.
+    // The script that is returned is the one that `bytes` are the text of.
     ensures script { IfOk result (IsScript bytes.now) }
-    // What is a script is read.
+    // Where `bytes` are the text of a script, that script is returned, unless memory runs out.
     ensures only { (script : Script Op) → IsScript bytes.now script → IsOkOr script result }
     ensures limits { IfOk result (KeepsLimits IsOp 8) }
-    // The line refused is the first with which the lines so far are no script.
+    // The refused line is the first one with which the lines up to it are no script.
     ensures refused { IfErr result (IsScriptFault bytes.now) }
 {
     script_text::read_script::<Documents>(alloc, bytes)
@@ -31,12 +31,12 @@ pub fn read_script(alloc: Global, bytes: &[u8]) -> Result<Script, TextFault>
 /// Reads a script of a pool: one life at the most, of up to 64 clients, without cut lines. It is Ok exactly for the texts of such scripts,
 /// unless memory runs out. Other texts are refused by the first line with which the lines so far are none.
 pub fn read_pool_script(alloc: Global, bytes: &[u8]) -> Result<Script, TextFault>
-    // What is read is what the text says.
+    // The script of a pool that is returned is the one that `bytes` are the text of.
     ensures script { IfOk result (IsPoolScript bytes.now) }
-    // What is such a script is read.
+    // Where `bytes` are the text of a script of a pool, that script is returned, unless memory runs out.
     ensures only { (script : Script Op) → IsPoolScript bytes.now script → IsOkOr script result }
     ensures limits { IfOk result (λ script. KeepsLimits IsOp 64 script × IsScriptWithin pool_commands.limits script) }
-    // The line refused is the first with which the lines so far are no such script.
+    // The refused line is the first one with which the lines up to it are no script of a pool.
     ensures refused { IfErr result (IsPoolFault bytes.now) }
 {
     script_text::read_script::<PoolDocuments>(alloc, bytes)

@@ -38,7 +38,7 @@ pub fn recovered_text(alloc: Global, found: &Recovered) -> Result<Vec<u8>, Alloc
     Ok(out)
 }
 
-// After an `Err` what is written is of no use.
+// Each function below appends a part of the text to what is written. After an `Err` what is written is of no use.
 
 /// Appends the first line.
 fn write_head(out: &mut Vec<u8>, place: u64, documents: u64) -> Result<(), AllocError>

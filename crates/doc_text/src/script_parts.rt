@@ -23,7 +23,7 @@ pub type ReadLine = life_records::ReadLine<Reply>;
 /// A life as it went.
 pub type LifeRecord = life_records::LifeRecord<Reply>;
 
-/// What one line of a script says.
+/// One line of a script of documents, as it was read.
 pub type ScriptLine = script_text::ScriptLine<Op>;
 
 /// Why a text was not read.

@@ -38,6 +38,6 @@ queue_grammar = script_grammar queue_commands
 abbrev pub IsFifoScript : List ℕ → FifoScript → Type 0
 IsFifoScript text script = IsTextOf queue_grammar text (uncut_script script)
 
--- what is told of a text that was not read
+-- why a text is no script of a queue: its first line at fault and the first reason that fits, or memory ran out
 abbrev pub IsQueueScriptFault : List ℕ → TextFault FifoReason → Type 0
 IsQueueScriptFault text fault = lines.IsFault queue_grammar text fault

@@ -1,4 +1,4 @@
--- The records of a script of a queue, and the text that tells of them.
+-- The records of a script of a queue, and the text on them.
 use Rattle.std.specs.Prelude.{◌≡◌, ℕ, List, map}
 use Rattle.table_invariant.specs.Ending.{Ending}
 use Rattle.cx_lives.specs.Lives.{AreTold}

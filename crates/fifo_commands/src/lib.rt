@@ -10,7 +10,7 @@
 //!
 //! Lives:
 //!
-//! - A legal life without cuts is a legal life of a queue, told by leaving out what only cuts have: `uncut_lives_are_fifo_lives`.
+//! - A legal life without cuts is a legal life of a queue, where its record is without what only cuts have: `uncut_lives_are_fifo_lives`.
 //! - Over all lives of a script, the texts of the kept pops that were given one, followed by the texts left at the end, are the texts of the
 //!   kept pushes that were taken, in order: `lives_keep_their_order`.
 //! - Whatever the threads do, the records are those of legal lives of the queue, witnessed by the execution logs of the services:
@@ -25,7 +25,7 @@
 //! - The report of records is its definition: `fifo_report`. The records of legal lives can be reported: `legal_lives_can_be_reported`.
 //! - A report of all lives: `report_of_queue`. Its records are of legal lives of the queue, each witnessed by the execution log of the
 //!   service that ran it, and the text is the report of these records (`IsFifoReport`, in `specs/Texts.antt`).
-//! - Over all the lives that a report tells of, the queue's order is kept: `reports_keep_their_order`.
+//! - Over all the lives in a report the queue's order is kept: `reports_keep_their_order`.
 #![tactic(auto)]
 
 mod commands;

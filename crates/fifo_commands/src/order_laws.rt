@@ -9,7 +9,7 @@ ghost use Rattle.fifo_commands.specs.Texts.{IsFifoReport};
 
 use crate::lives::lives_keep_their_order;
 
-/// What was pushed comes out once and in order, over all crashes: of the lives that a report tells of, the texts of the kept pops
+/// What was pushed comes out once and in order, over all crashes: of the lives in a report, the texts of the kept pops
 /// that were given an item, followed by the items that are left, are the texts of the kept pushes that were taken.
 pub fn reports_keep_their_order()
     ensures { (script : FifoScript) (trails : List Ending) (text : List ℕ) (told : IsFifoReport script trails text) →

@@ -19,12 +19,12 @@ use std::alloc::{AllocError, Global};
 /// Reads a script. It is Ok exactly for the texts of scripts, unless memory runs out. Other texts are refused by
 /// the first line with which the lines so far are no script.
 pub fn read_fifo_script(alloc: Global, bytes: &[u8]) -> Result<FifoScript, FifoTextFault>
-    // What is read is what the text says.
+    // The script that is returned is the one that `bytes` are the text of.
     ensures script { IfOk result (IsFifoScript bytes.now) }
-    // What is a script is read.
+    // Where `bytes` are the text of a script, that script is returned, unless memory runs out.
     ensures only { (script : fifo_script) → IsFifoScript bytes.now script → IsOkOr script result }
     ensures limits { IfOk result (λ script. KeepsLimits IsOp 8 (uncut_script script)) }
-    // The line refused is the first with which the lines so far are no script.
+    // The refused line is the first one with which the lines up to it are no script.
     ensures refused { IfErr result (IsQueueScriptFault bytes.now) }
 {
     let script = script_text::read_script::<QueueTexts>(alloc, bytes)?;

@@ -10,10 +10,10 @@ pub type FifoCommand = Command<FifoOp>;
 /// An entry of the history, with its reply.
 pub type FifoLine = JournalLine<FifoReply>;
 
-/// A read beside the history.
+/// A read that was answered beside the history, with its place and its reply.
 pub type FifoRead = ReadLine<FifoReply>;
 
-/// What a run is told: how many lines the queue has, and its lives in order.
+/// What a run is asked for: how many lines the queue has, and its lives in order.
 #[derive(Drop)]
 pub struct FifoScript {
     pub lines: u64,
@@ -41,6 +41,6 @@ pub struct FifoRecord {
     pub choice: u64,
     /// This many entries, the first ones, survive the crash.
     pub kept: u64,
-    /// The texts in the queue that the next life begins with.
+    /// The number of texts in the queue with which the next life begins.
     pub items: u64,
 }

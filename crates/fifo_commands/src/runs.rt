@@ -57,7 +57,7 @@ pub fn run_fifo<R: Threads + Wait + Sync, G: Gate + Sync>(
     leave_out_cuts(alloc, lived)
 }
 
-/// Runs lives one after another.
+/// Runs the given lives one after another over the queue, as `run_fifo` does.
 fn run_all<R: Threads + Wait + Sync, G: Gate + Sync>(
     rt: &R,
     alloc: Global,
@@ -79,7 +79,7 @@ fn run_all<R: Threads + Wait + Sync, G: Gate + Sync>(
     Ok(lived)
 }
 
-/// Runs one life more.
+/// Runs the next life over the queue, from what the lives before it left.
 fn run_one<R: Threads + Wait + Sync, G: Gate + Sync>(
     rt: &R,
     alloc: Global,
@@ -98,7 +98,7 @@ fn run_one<R: Threads + Wait + Sync, G: Gate + Sync>(
     run_next_life(rt, alloc, fifo, lived, &lent, gate)
 }
 
-/// The records without what only cuts have.
+/// The result of lives without cuts: their records without stop lines and full lines, and their trails.
 fn leave_out_cuts(alloc: Global, lived: Lived<FifoReply>) -> Result<FifoLived, AllocError>
     ensures records { IfOk result (λ left. left.records ≡ map without_cuts lived.records) }
     ensures trails { IfOk result (λ left. left.trails ≡ lived.trails) }
@@ -115,7 +115,7 @@ fn leave_out_cuts(alloc: Global, lived: Lived<FifoReply>) -> Result<FifoLived, A
     })
 }
 
-/// The records without what only cuts have.
+/// The records of lives without cuts, each without its stop lines and full lines.
 fn records_of(
     alloc: Global,
     records: Vec<LifeRecord<FifoReply>>,
@@ -129,7 +129,7 @@ fn records_of(
     Ok(left)
 }
 
-/// A record without what only cuts have.
+/// The record of a life without cuts, without its stop lines and full lines.
 fn record_of(told: LifeRecord<FifoReply>) -> FifoRecord
     ensures { result ≡ without_cuts told }
 {

@@ -45,7 +45,7 @@ part_there before part post n long same =
     let eight : length (take 8 before) ≡ 8 = length-take-le 8 before long in
     ap (take n) (subst (λ k. drop k (take 8 before ++ (part ++ post)) ≡ part ++ post) eight (drop-append_seam (take 8 before) (part ++ post))) ∙ subst (λ k. take k (part ++ post) ≡ part) same (take-append_seam part post)
 
--- so what is written of it is an image of the part
+-- what is written of words that have a part behind the first 8 is an image of that part
 pub written_of : (kind callers lines place rc rl n : ℕ) (before part post words : List ℕ) → callers ≡ rc → lines ≡ rl → length before ≡ n + 8 → length part ≡ region_words rl
     → IsWrittenOf kind callers lines place (take (region_words lines) (drop 8 (take 8 before ++ (part ++ post)))) words → IsWrittenOf kind rc rl place part words
 written_of kind callers lines place rc rl n before part post words c l long size written =

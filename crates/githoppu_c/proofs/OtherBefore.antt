@@ -17,7 +17,7 @@ use Rattle.c_images.specs.declared.reader.WordsFault.{WordsFault}
 abbrev pub of_object : {O : Type 0} → Running O → O → Running O
 of_object r object = record { table = r.table; callers = r.callers; lines = r.lines; base = r.base; object = object }
 
--- what it leaves names no object
+-- what a closed service leaves is also what it would leave with another object in its place, since it names none
 pub leaves_of : {O : Type 0} (r : Running O) (object : O) (instance : Instance) (seats : List Seated) (left : Remains) → ClosingWitness r instance seats left → ClosingWitness (of_object r object) instance seats left
 leaves_of r object instance seats left l = record {
   callers = l.callers;

@@ -34,8 +34,8 @@ use Rattle.githoppu_c.specs.declared.content.AnyHandleState.TheVariants.{Documen
 use Rattle.githoppu_c.specs.declared.content.HandleState.{HandleState}
 use Rattle.githoppu_c.specs.declared.content.HandleState.TheVariants.{Closed, Session}
 
--- Words are taken up again. As many sessions as there may be are recovered from them, and what became of each is told, unless memory runs out, or the
--- sessions' new queue did not take its first entry. What is taken up holds what was kept.
+-- Words are taken up again. As many sessions as there may be are recovered from them, unless memory runs out or the sessions' new queue did not take its
+-- first entry, and the outcome of each session is written, unless memory runs out. What is taken up holds what was kept.
 pub record IsTakenUpAgain (kind : ℕ) (taken : Base → Type 0) (faulty : WordsFault → Type 0) (kept : Base → Type 0) (words : List ℕ) : Type 0 where
   pub recovers : (count : ℕ) (code : ℤ) → AreFew count → Recovers kind taken faulty words count code → (code ≡ pos 0) ⊎ IsOpenCode code
   pub tells : (session number_before number : ℕ) (reply_before reply : List ℕ) (code : ℤ) → session < 8 →

@@ -41,13 +41,13 @@ pub record TookImage {O : Type 0} (o : Ghosts O) (kind : ℕ) (before after : Se
   pub written : IsWrittenAs kind (arc_value before.service) region taken words
   pub is : code ≡ taken_code taken
 
--- a session took an image where there are as many words as it takes, which is the number that is told; else nothing is changed
+-- a session took an image where there are as many words as it takes, which is the number `needed`; with another number of words nothing is changed
 pub record TakesAs {O : Type 0} (o : Ghosts O) (kind : ℕ) (before after : Session O) (words_before words : List ℕ) (needed : ℕ) (code : ℤ) : Type 0 where
   pub needed_is : needed ≡ checkpoint_words (arc_value before.service)
   pub took : ((length words_before ≡ checkpoint_words (arc_value before.service)) × TookImage o kind before after words code)
       ⊎ ((length words_before ≢ checkpoint_words (arc_value before.service)) × (code ≡ pos 7) × (words ≡ words_before) × (after ≡ before))
 
--- what is no session was called out of turn, and nothing is changed
+-- taking an image, of whatever object: a session took one; what is no session was called out of turn, and nothing is changed
 abbrev pub ContentCheckpoints : {O : Type 0} → Ghosts O → ℕ → List ℕ → List ℕ → ℕ → ℤ → HandleState O → HandleState O → Type 0
 ContentCheckpoints o kind words_before words needed code (ContentSession before) (ContentSession after) =
     TakesAs o kind before after words_before words needed code

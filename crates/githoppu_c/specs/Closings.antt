@@ -52,7 +52,7 @@ ClosesAs before after code = OfBoth (ContentCloses store_ghosts code) (ContentCl
 abbrev pub remains_words : Remains → ℕ
 remains_words r = image_size r.callers r.lines + 8
 
--- what a closed service left, by choice: written where there are as many words as it takes, which is the number that is told; else nothing is written
+-- what a closed service left, by choice: written where there are as many words as it takes, which is the number `needed`; else nothing is written
 pub record WritesRemains (kind : ℕ) (r : Remains) (choice : ℕ) (before after : List ℕ) (needed : ℕ) (code : ℤ) : Type 0 where
   pub needed_is : needed ≡ remains_words r
   pub written : ((length before ≡ remains_words r) × (code ≡ pos 0) × AreRemainsWritten kind r choice after)

@@ -1,4 +1,4 @@
--- What the definitions of sessions and of images say of the three objects.
+-- The definitions of sessions and of images, for each of the three objects.
 use Rattle.std.specs.Prelude.{◌≡◌, ◌⊎◌, ℕ, ℤ, pos, List, Option}
 use Rattle.cx_base.specs.OldFormat.{OldFormat, no_old_format}
 use Rattle.cx_base.specs.declared.object.Object.{Ghosts}
@@ -19,7 +19,7 @@ use Rattle.program_object.specs.Meaning.{IsProgramImage, old_of}
 abbrev pub IsBaseWith : (List ℕ → Type 0) → (Base → Type 0) → Base → Type 0
 IsBaseWith is taken base = taken base × HoldsReplies is base.words
 
--- why nothing is: the words are refused, or a result of what they say is no reply
+-- why there is no base: the words are refused, or a result of the base in them is no reply
 abbrev pub IsFaultOr : (List ℕ → Type 0) → (Base → Type 0) → (WordsFault → Type 0) → WordsFault → Type 0
 IsFaultOr is taken faulty fault = faulty fault ⊎ ((fault ≡ Image Body) × ((base : Base) × taken base × (¬ HoldsReplies is base.words)))
 
@@ -64,7 +64,7 @@ IsProgramFault version old words =
 abbrev pub old_in_lines : ProgramObject → Option ℕ → ℕ → OldFormat
 old_in_lines o before lines = old_of (instructions_of o.program) (program_words o.program) lines o.fuel o.version before
 
--- the base is what the words say for an object that may have other lines than they say
+-- the base in these words for an object, which may have another number of lines than the words
 abbrev pub IsObjectIn : {O : Type 0} → Ghosts O → ReplyKind → O → List ℕ → Base → Type 0
 IsObjectIn o replies object words = IsBaseWith (IsReplyOfKind replies) (IsTakenUp (o.version_number object) (o.lawful object) (o.old_format object) words)
 

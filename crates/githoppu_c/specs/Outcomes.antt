@@ -1,4 +1,4 @@
--- What became of a session's last operation, as the words of an image say.
+-- The outcome of a session's last operation, read from the words of an image.
 use Rattle.std.specs.Prelude.{◌≡◌, ◌==◌, ◌⊎◌, ◌+◌, ◌*◌, ◌<◌, ◌≤◌, ℕ, ℤ, pos, List, IfOk, MatchResult, Result, length, replicate, slice_index, if◌then◌else◌}
 use Rattle.cx_base.specs.Codes.{root_replica_of}
 use Rattle.cx_base.specs.OldFormat.{no_old_format}
@@ -20,7 +20,7 @@ object_start_in words = 8 + 1168 + (if format_in words == 2 then 0 else region_w
 abbrev pub fingerprint_in : List ℕ → ℕ
 fingerprint_in words = slice_index words (object_start_in words)
 
--- the base that words say, of a store, of a queue or of the program that they name, as their head has it
+-- the base in words, of a store, of a queue or of the program that the words name, by the kind in their head
 abbrev pub IsBaseOfKind : ℕ → List ℕ → Base → Type 0
 IsBaseOfKind kind words base =
     ((kind ≡ 1) × IsStoreIn words base)
@@ -48,16 +48,16 @@ IsOutcomeIn words session outcome = (session < 8) × ((base : Base) × IsBaseIn 
 abbrev pub RefusesBase : List ℕ → ℤ → Type 0
 RefusesBase words code = (fault : WordsFault) × IsBaseFault words fault × (code ≡ fault_code fault)
 
--- the base that words say, which has a region's words before the object part, or why they say none
+-- the base in words, which has a region's words before the object part, or why there is none in them
 pub record TellsBase (words : List ℕ) (answer : Result Base ℤ) : Type 0 where
   pub base : MatchResult answer (IsBaseIn words) (RefusesBase words)
   pub long : IfOk answer (λ base. 1168 ≤ length base.words)
 
--- why nothing is told: there is no such session, or the words are refused
+-- why there is no outcome: there is no such session, or the words are refused
 abbrev pub RefusesOutcome : List ℕ → ℕ → ℤ → Type 0
 RefusesOutcome words session code = ((8 ≤ session) × (code ≡ pos 7)) ⊎ ((session < 8) × RefusesBase words code)
 
--- a number and a reply say an outcome: 0 and 144 zeros where there was no operation
+-- the number and the reply of an outcome: 0 and 144 zeros where there was no operation
 abbrev pub AreOf : Outcome → ℕ → List ℕ → Type 0
 AreOf Never number reply = (number ≡ 0) × (reply ≡ replicate 144 0)
 AreOf (Applied last answer) number reply = (number ≡ last) × (reply ≡ answer)

@@ -15,7 +15,7 @@ sight_code (Behind found) = pos 23
 sight_code Stopped = pos 5
 sight_code OutOfTurn = pos 6
 
--- the place of a session is told, and of what is no session 0, out of turn
+-- the answer has the place of a session; what is no session answers 0, out of turn
 abbrev pub ContentTellsPlace : {O : Type 0} → ℕ → ℤ → HandleState O → Type 0
 ContentTellsPlace place code (Session session) = (place ≡ session.place) × (code ≡ pos 0)
 ContentTellsPlace place code content = (place ≡ 0) × (code ≡ pos 6)

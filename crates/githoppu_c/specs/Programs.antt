@@ -72,7 +72,7 @@ TellsFault words instructions number_before number at_before at code =
     (IsProgram words instructions × (number ≡ 0) × (at ≡ 0) × (code ≡ pos 0))
     ⊎ ((TellsFirstFault words instructions number at × (code ≡ pos 25)) ⊎ ((number ≡ number_before) × (at ≡ at_before) × (code ≡ pos 8)))
 
--- the fingerprint of a program is told, or what was there is left
+-- the fingerprint of a program is written, or what was there is left
 abbrev pub TellsFingerprint : List ℕ → ℕ → ℕ → ℕ → ℕ → ℤ → Type 0
 TellsFingerprint words instructions fuel before after code =
     (IsFuel fuel × IsProgram words instructions × (after ≡ fingerprint words instructions fuel) × (code ≡ pos 0))
@@ -82,7 +82,8 @@ TellsFingerprint words instructions fuel before after code =
 abbrev pub MayOpenProgram : ℕ → ℕ → ℕ → Type 0
 MayOpenProgram fuel lines count = MayOpen lines count × IsFuel fuel
 
--- why it is not: the sizes are wrong; they are right, and the words are no program, or memory ran out, or the sessions' new queue did not take its first entry
+-- why no program is opened: the sizes are wrong; or they are right, and the words are no program, or memory ran out, or the sessions' new queue did not
+-- take its first entry
 abbrev pub RefusesProgramOpening : List ℕ → ℕ → ℕ → ℕ → ℕ → ℤ → Type 0
 RefusesProgramOpening words instructions fuel lines count code =
     ((¬ MayOpenProgram fuel lines count) × (code ≡ pos 7))
@@ -127,7 +128,7 @@ abbrev pub RefusesProgramRecovery : List ℕ → ℕ → ℕ → ℕ → List �
 RefusesProgramRecovery words instructions fuel before image count =
     AfterProgram words instructions fuel count (λ decoded. RefusesWords 3 (IsFaultByProgram decoded words instructions fuel before image) image count)
 
--- boxes of sessions of one service of the object of this program, which opens from a base that the image says
+-- boxes of sessions of one service of the object of this program, which opens from a base that is in the image
 pub record AreProgramsRecovered (words : List ℕ) (instructions fuel before : ℕ) (image : List ℕ) (count : ℕ) (boxes : List (Box AnyHandleState Global))
     : Type 0 where
   pub is : IsProgram words instructions

@@ -31,7 +31,7 @@ IsRefusal faulty code = (fault : WordsFault) × faulty fault × (code ≡ fault_
 abbrev pub RefusesWords : ℕ → (WordsFault → Type 0) → List ℕ → ℕ → ℤ → Type 0
 RefusesWords kind faulty words count code = ((¬ AreFew count) × (code ≡ pos 7)) ⊎ (AreFew count × (AreWordsRefusedBy kind faulty words code ⊎ IsOpenCode code))
 
--- this many boxes of sessions of one service that opens from a base that these words say
+-- this many boxes of sessions of one service that opens from a base that is taken up from words
 pub record AreRecovered {O : Type 0} (any : Session O → AnyHandleState) (taken : Base → Type 0) (count : ℕ) (boxes : List (Box AnyHandleState Global)) : Type 0 where
   pub few : AreFew count
   pub service : Running O

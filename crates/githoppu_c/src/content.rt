@@ -70,7 +70,7 @@ impl<O: OfC> HandleState<O> {
         }
     }
 
-    /// The place that a session tells; of what is no session none.
+    /// The place of a session, with which another session may catch up. `None` where this is no session.
     pub fn place(&self) -> Option<u64>
         ensures { ContentMayHavePlace self.now result }
     {
@@ -80,7 +80,7 @@ impl<O: OfC> HandleState<O> {
         }
     }
 
-    /// Has a session see a place that another one told.
+    /// Has a session catch up with the place of another session. What is no session is called out of turn.
     pub fn catch_up(&mut self, place: u64) -> SessionCatchUp
         requires callable { IsContentCallable O.Object O.replies_kept self.old }
         ensures { LeavesContentCallable O.Object O.replies_kept self.new (ContentSees place result self.old self.new) }
@@ -100,6 +100,7 @@ impl<O: OfC> HandleState<O> {
     {
         match self {
             HandleState::Session(session) => {
+                // an image that a session took is taken up again, unless memory runs out
                 taken_images_are_taken_up::<O>();
                 take_to(session, O::KIND, words, needed)
             }
@@ -146,8 +147,11 @@ impl<O: OfC> HandleState<O> {
     {
         match self {
             HandleState::Closed(remains) => {
+                // a closed service leaves all that an image is made of
                 closed_tables_are_whole::<O>();
+                // the words that are written are taken up again, unless memory runs out
                 written_images_are_taken_up::<O>();
+                // what is taken up of them has replies of the object's kind only
                 written_images_keep_replies::<O>();
                 write_to(remains, O::KIND, choice, words, needed)
             }
@@ -159,7 +163,7 @@ impl<O: OfC> HandleState<O> {
     }
 }
 
-/// What closing a session left.
+/// What a handle holds after its session was closed with this result, and the status of the call.
 fn left<O: Object>(closing: Closing<O>) -> (HandleState<O>, i32)
     ensures { (result.0 ≡ content_left closing) × (result.1 ≡ closing_code closing) }
 {
@@ -198,7 +202,7 @@ impl AnyHandleState {
         }
     }
 
-    /// The place that a session tells; of what is no session none.
+    /// The place of a session, with which another session may catch up. `None` where this is no session.
     pub fn place(&self) -> Option<u64>
         ensures { MayHavePlace self.now result }
     {
@@ -209,7 +213,7 @@ impl AnyHandleState {
         }
     }
 
-    /// Has a session see a place that another one told.
+    /// Has a session catch up with the place of another session. What is no session is called out of turn.
     pub fn catch_up(&mut self, place: u64) -> SessionCatchUp
         requires callable { IsCallable self.old }
         ensures { LeavesCallable self.new (ContentCatchesUp place self.old result self.new) }
@@ -231,6 +235,7 @@ impl AnyHandleState {
             AnyHandleState::Documents(content) => content.checkpoint(words, needed),
             AnyHandleState::Queue(content) => content.checkpoint(words, needed),
             AnyHandleState::Program(content) => {
+                // an image that a session took is taken up again, unless memory runs out
                 taken_images_are_taken_up::<ProgramObject>();
                 content.checkpoint(words, needed)
             }
@@ -259,6 +264,7 @@ impl AnyHandleState {
             AnyHandleState::Documents(content) => content.image(choice, words, needed),
             AnyHandleState::Queue(content) => content.image(choice, words, needed),
             AnyHandleState::Program(content) => {
+                // the words that are written are taken up again, unless memory runs out
                 written_images_are_taken_up::<ProgramObject>();
                 content.image(choice, words, needed)
             }
@@ -268,7 +274,7 @@ impl AnyHandleState {
 
 const fn goes_to_a_thread<T: Send>() {}
 
-/// What C has may go to another thread, in each of its cases.
+/// A check by the compiler, which does nothing: what stands behind a pointer that C holds may go to another thread, in each of its cases.
 pub const fn contents_cross_threads() {
     goes_to_a_thread::<Session<DocStore>>();
     goes_to_a_thread::<Session<Fifo>>();

@@ -6,7 +6,7 @@
 //! nothing. The bodies are thin: `c_sessions` has what a call does, `c_images` has images.
 //!
 //! The document store, the queue and the object of a program for C: `include/githoppu.h` says how each is called. A session is a caller with its share of a
-//! service, and C gives each to one call at a time. What a call does is said once, for any object (`HandleState`), and matched once by object
+//! service, and C gives each to one call at a time. What a call does stands once, for any object (`HandleState`), and is matched once by object
 //! (`AnyHandleState`).
 #![tactic(auto)]
 
@@ -118,7 +118,7 @@ pub extern "C" fn githoppu_open_program(
     }
 }
 
-/// Tells why words are no program: the number of the kind of the first fault, and the number of the instruction at fault; 0 and 0 where they are one.
+/// Writes why words are no program: the number of the kind of the first fault, and the number of the instruction at fault; 0 and 0 where they are a program.
 #[unsafe(no_mangle)]
 pub extern "C" fn githoppu_program_fault(
     alloc: Global,
@@ -146,7 +146,7 @@ pub extern "C" fn githoppu_program_fault(
     }
 }
 
-/// Tells the fingerprint of a program, which stands in its images.
+/// Writes the fingerprint of a program, which stands in its images.
 #[unsafe(no_mangle)]
 pub extern "C" fn githoppu_program_fingerprint(
     alloc: Global,
@@ -169,8 +169,8 @@ pub extern "C" fn githoppu_program_fingerprint(
     }
 }
 
-/// Does an operation, in at most `tries` tries, which counts as 1 to 2^20. The reply is written where the call is done; else nothing is said of its words. The
-/// session stands at `out` afterwards.
+/// Does an operation, in at most `tries` tries, which counts as 1 to 2^20. The reply is written where the call is done, and may
+/// have any words where it is not. The session stands at `out` afterwards.
 #[unsafe(no_mangle)]
 pub extern "C" fn githoppu_call(
     session: Handle,
@@ -188,8 +188,8 @@ pub extern "C" fn githoppu_call(
     code_of(called)
 }
 
-/// Drives the linked entry to its answer, in at most `tries` turns, which counts as 1 to 2^20. The reply is written where the call is done; else nothing is
-/// said of its words. The session stands at `out` afterwards.
+/// Drives the linked entry to its answer, in at most `tries` turns, which counts as 1 to 2^20. The reply is written where the call is done, and
+/// may have any words where it is not. The session stands at `out` afterwards.
 #[unsafe(no_mangle)]
 pub extern "C" fn githoppu_finish(
     session: Handle,
@@ -206,8 +206,8 @@ pub extern "C" fn githoppu_finish(
     code_of(called)
 }
 
-/// Closes a session. Its caller is handed in; the session of an object that is closed last closes it, and what it left stands at `out`. Where
-/// others are not closed, nothing stands there, and else what is to be closed again.
+/// Closes a session. Its caller is handed in; the session of an object that is closed last closes the object, and what the object left stands at `out`. Where
+/// other sessions are not closed yet, `out` is null; after any other answer what the handle holds then stands at `out`.
 #[unsafe(no_mangle)]
 pub extern "C" fn githoppu_close(alloc: Global, session: Handle, out: &mut *mut u8) -> i32
     requires { IsCallable session.content }
@@ -226,7 +226,7 @@ pub extern "C" fn githoppu_close(alloc: Global, session: Handle, out: &mut *mut 
 
 /// Writes what a crash leaves of a closed object, by choice, where the buffer has as many words as an image, which is `needed`. Where it is
 /// done, a recovery of the words with 1 to 8 sessions answers DONE, or NO_MEMORY (`GITHOPPU_NO_MEMORY`) where memory runs out, or AGAIN where the new
-/// sessions' queue did not take its first entry; and of a store or a queue what became of each session is told, or the answer is NO_MEMORY.
+/// sessions' queue did not take its first entry; and `githoppu_outcome` of a store's or a queue's words answers DONE or NO_MEMORY for each session.
 #[unsafe(no_mangle)]
 pub extern "C" fn githoppu_image(
     closed: Handle,
@@ -369,7 +369,8 @@ pub extern "C" fn githoppu_version() -> u64
     VERSION
 }
 
-/// Tells the place that a session has seen, and of what is no session 0, out of turn. The session stands at `out` afterwards.
+/// Writes the place of a session, with which another session may catch up; what is no session is called out of turn, and 0 is written. The session stands at
+/// `out` afterwards.
 #[unsafe(no_mangle)]
 pub extern "C" fn githoppu_place_of(session: Handle, place: &mut u64, out: &mut *mut u8) -> i32
     ensures { TellsPlace session.content place.new result }
@@ -389,7 +390,7 @@ pub extern "C" fn githoppu_place_of(session: Handle, place: &mut u64, out: &mut 
     }
 }
 
-/// Has a session see a place that another session of the same object told. The session stands at `out` afterwards.
+/// Has a session catch up with the place of another session of the same object. The session stands at `out` afterwards.
 #[unsafe(no_mangle)]
 pub extern "C" fn githoppu_see_place(session: Handle, place: u64, out: &mut *mut u8) -> i32
     requires { IsCallable session.content }
@@ -401,7 +402,7 @@ pub extern "C" fn githoppu_see_place(session: Handle, place: u64, out: &mut *mut
     sight_code(sight)
 }
 
-/// Releases what C holds. The last session of an object releases that too.
+/// Releases what C holds. The last session of an object releases the object too.
 #[unsafe(no_mangle)]
 pub extern "C" fn githoppu_drop(session: Handle) {
     drop(session.into_box());

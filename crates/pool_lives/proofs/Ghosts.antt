@@ -68,7 +68,7 @@ module _ (client : ℕ) (calls : List Call) where
       ∙ ap (λ (w : List ℕ). front ++ seen_of seen.place op w (0 + length (entries_called calls)) ∷ []) reply
       ∙ ap (λ (n : ℕ). front ++ seen_of seen.place op seen.reply n ∷ []) long
 
--- those of one client more
+-- with one client more, that client's lists stand behind those of the others
 pub locals_more : (client : ℕ) (calls : List (List Call)) (own : List Call) → locals_from client (calls ++ own ∷ []) ≡ locals_from client calls ++ local_of (client + length calls) own ∷ []
 locals_more client [] own = (let same : client ≡ client + 0 = omega arith in ap (λ n. local_of n own ∷ []) same)
 locals_more client (cs ∷ calls) own =

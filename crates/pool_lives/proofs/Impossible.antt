@@ -48,7 +48,7 @@ local_back client (cs ∷ calls) (suc i) l at =
     let rest = local_back (client + 1) calls i l at in
     (rest.0, rest.1, ap (λ n. local_of n rest.0) same ∙ rest.2)
 
--- they have as many entries as the calls
+-- the lists of all clients have as many entries together as there are entries among all their calls
 pub all_long : (client : ℕ) (calls : List (List Call)) → length (all_own (locals_from client calls)) ≡ total_weight (λ (cs : List Call). length (entries_called cs)) calls
 all_long client [] = refl
 all_long client (cs ∷ calls) =

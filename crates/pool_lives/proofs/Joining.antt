@@ -127,7 +127,7 @@ module _ {O Op Reply Store : Type 0} (m : Meaning Op Reply Store) (life : Life O
             (subst (λ k. MatchBool served.impossible (CannotBeLeft m life k served.client own) (HasMadeCalls m life k (length (own_ops k life.commands)) own served.lines.entries.items served.lines.reads.items)) long e.end_is));
       }
 
--- with no clients there is nothing
+-- before the first client, what is gathered is right: no client, no line, and nothing that cannot be
 pub gathered_none : {O Op Reply Store : Type 0} (m : Meaning Op Reply Store) (life : Life Op) (r : Running O) (table : TableId) (g : GatheredClients Reply) → AreWorks m.encoding life [] [] [] [] [] → g.clients.items ≡ [] → g.lines.entries.items ≡ [] → g.lines.reads.items ≡ [] → g.impossible ≡ false
     → AreClientsGathered m life r table g
 gathered_none {Reply = Reply} m life r table g works clients entries reads impossible = record {

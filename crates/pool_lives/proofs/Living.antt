@@ -70,7 +70,7 @@ module _ {O Op Reply Store : Type 0} (m : Meaning Op Reply Store) (steps : O →
         fulls = fulls;
       }
 
--- and no client met what cannot be
+-- no client of a closed pool met what cannot be: that there was no further ticket, or that words of an answer are no reply
 module _ {O Op Reply Store : Type 0} (t : TypedSteps Op Reply Store) (steps : O → List ℕ → List ℕ → List ℕ × List ℕ) (readings : O → List ℕ → Bool) (life : Life Op) (r : Running O) (table : TableId) (g : GatheredClients Reply) (gathered : AreClientsGathered t.meaning life r table g) (remains : Remains)
     (closed : IsClosed r (instance_at r steps readings) g.clients.items remains) (step_is : steps r.object ≡ t.step) (base : LawfulBase t.lines t.lawful r.base) (tickets : r.base.place + length life.commands ≤ 2 ^ 40) where
   pub impossible : ClientHasImpossibleEnd t.meaning life g.clients.items gathered.calls → ⊥

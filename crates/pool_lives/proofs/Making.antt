@@ -27,11 +27,11 @@ use Rattle.pool_lives.specs.Asking.{KeepsLast, MayAsk}
 use Rattle.pool_lives.specs.Ghosts.{IsCallAt, local_of}
 use Rattle.pool_lives.specs.Working.{HasMadeCalls, IsAtWork, IsCalling, IsOver, MakesCommand}
 
--- a call stays behind its command
+-- the call that answered a command is still that call when the client made further calls
 pub stays_at : (calls more : List Call) (command at next : ℕ) → IsCallAt calls command at next → IsCallAt (calls ++ more) command at next
 stays_at calls more command at next is = record { some = is.some; call = is.call; there = slice_get-append_left calls more (command - 1) is.call is.there; place = is.place; behind = is.behind }
 
--- the client goes on
+-- a client that may ask again after a call goes on with its commands
 abbrev pub calling_on : {O : Type 0} (r : Running O) (table : TableId) (clients number : ℕ) (before after : Client) → IsCalling r table clients number before → MayAsk r table after → IsSameClient before after → (calls : List Call) → HasCalls r after calls → IsCalling r table clients number after
 calling_on r table clients number before after who may same calls has = record {
   may = may;

@@ -29,7 +29,7 @@ pub record MayAskFor {O : Type 0} (only_reads : O → List ℕ → Bool) (of : P
   pub client : MayAsk of.service of.line.table.shared.table_id asking
   pub reads : IsTrue beside → IsTrue (only_reads of.service.object op)
 
--- it keeps a caller for which there is no further ticket
+-- the client keeps a caller for which there is no further ticket
 pub record KeepsLast (client : Client) : Type 0 where
   pub last : Seated
   pub keeps : client.lent.kept ≡ Some (Idle last)

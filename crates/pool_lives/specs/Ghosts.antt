@@ -14,6 +14,7 @@ use Rattle.client_pool.specs.declared.call.Call.TheVariants.{Entry, Look}
 abbrev pub as_own : ℕ → AnsweredCall → Linked
 as_own client told = record { ticket = told.entry.ticket; entry = record told.entry.entry { caller = client } }
 
+-- the answer of an answered call
 abbrev pub answer_of : AnsweredCall → Answer
 answer_of told = told.answer
 
@@ -23,6 +24,7 @@ seen_from before [] = []
 seen_from before (Entry told ∷ calls) = seen_from (before + 1) calls
 seen_from before (Look read ∷ calls) = record { place = read.place; op = read.op; reply = read.reply; before = before } ∷ seen_from before calls
 
+-- the lists that a caller of a client's own would have after these calls
 abbrev pub local_of : ℕ → List Call → Local
 local_of client calls = record (opening_local 1 0 client) {
   limit = 2 ^ 64 - 1;
@@ -31,12 +33,12 @@ local_of client calls = record (opening_local 1 0 client) {
   seen_reads = seen_from 0 calls;
 }
 
--- those of clients from one on
+-- for each client from `client` on, the lists that a caller of its own would have with the client's calls
 abbrev pub locals_from : ℕ → List (List Call) → List Local
 locals_from client [] = []
 locals_from client (calls ∷ rest) = local_of client calls ∷ locals_from (client + 1) rest
 
--- the call behind a command: where its answer holds, and below which place no later one does
+-- the call that answered a command: its answer holds at `at`, and no later answer holds below `next`
 pub record IsCallAt (calls : List Call) (command at next : ℕ) : Type 0 where
   pub some : 1 ≤ command
   pub call : Call

@@ -55,11 +55,12 @@ pub record IsAtWork {O Op Reply Store : Type 0} (m : Meaning Op Reply Store) (li
   pub who : IsCalling r table clients client now
   pub made : HasMadeCalls m life client number who.calls lines.entries.items lines.reads.items
 
--- the operation of a call, and the words that it was answered
+-- the words of a call's operation
 abbrev pub op_of : Call → List ℕ
 op_of (Entry told) = told.entry.entry.op
 op_of (Look read) = read.op
 
+-- the words with which a call was answered
 abbrev pub reply_of : Call → List ℕ
 reply_of (Entry told) = told.answer.reply
 reply_of (Look read) = read.reply
@@ -78,10 +79,11 @@ pub record IsClientWorn {Op : Type 0} (life : Life Op) (number : ℕ) (client : 
   pub last : KeepsLast client
   pub fewer : length (entries_called calls) < length (own_ops number life.commands)
 
--- what no closed service leaves
+-- what no closed service leaves of a client: no further ticket while it has commands left, or an answer whose words are no reply
 abbrev pub CannotBeLeft : {Op Reply Store : Type 0} → Meaning Op Reply Store → Life Op → ℕ → Client → List Call → Type 0
 CannotBeLeft m life number client calls = IsClientWorn life number client calls ⊎ IsBadCall m calls
 
+-- a client at its end that met what cannot be
 pub record IsOver {O Op Reply Store : Type 0} (m : Meaning Op Reply Store) (life : Life Op) (r : Running O) (table : TableId) (clients client : ℕ) (now : Client) : Type 0 where
   pub who : IsCalling r table clients client now
   pub few : length (entries_called who.calls) ≤ length (own_ops client life.commands)

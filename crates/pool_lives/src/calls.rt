@@ -12,16 +12,16 @@ use std::thread;
 /// The result of an operation that a client asks for.
 #[derive(Drop)]
 pub(crate) enum CallOutcome {
-    /// It is answered as an entry of the queue at this ticket.
+    /// The operation is answered as an entry of the queue at this ticket.
     Done(u64),
-    /// It is answered beside the queue at this place.
+    /// The operation is answered beside the queue at this place.
     Read(u64),
     /// There is no further ticket.
     Worn,
 }
 
-/// Asks for an operation, whose reply is written into the buffer, again as often as no cell is idle: those who keep the cells release them in time. `Err`
-/// means out of memory.
+/// Asks for an operation until it is answered, and writes its reply into `reply`. Where no cell is idle it asks again: those who keep the cells release
+/// them in time. `Err` means out of memory.
 pub(crate) fn ask<O: Object, R: Wait>(
     rt: &R,
     pool: &Pool<O>,
@@ -42,7 +42,7 @@ pub(crate) fn ask<O: Object, R: Wait>(
     unreachable!()
 }
 
-/// Asks for an operation once: beside the queue where it only reads, and else as an entry of the queue. Nothing where no cell is idle.
+/// Asks for an operation once: by a read where it only reads, and as an entry of the queue where it does not. `None` where no cell is idle.
 fn ask_once<O: Object, R: Wait>(
     rt: &R,
     pool: &Pool<O>,

@@ -13,7 +13,7 @@ use life_records::laws::{works_begin, works_go_on};
 use std::alloc::{AllocError, Global};
 use typed_object::TypedObject;
 
-/// The clients, the lines of all, and whether some client met what cannot be.
+/// The clients so far, the lines of all, and whether some client met what cannot be: no further ticket, or words that are no reply.
 #[derive(Drop)]
 pub(crate) struct GatheredClients<Reply> {
     pub(crate) clients: Vec<Client>,
@@ -22,7 +22,7 @@ pub(crate) struct GatheredClients<Reply> {
 }
 
 impl<Reply: Drop> GatheredClients<Reply> {
-    /// With one client more.
+    /// Adds the next client, its lines, and whether it met what cannot be.
     fn with(self, served: ServedClient<Reply>) -> Result<GatheredClients<Reply>, AllocError>
         ensures { IfOk result (λ after. AddsServed self after served) }
     {
@@ -52,7 +52,9 @@ pub(crate) fn gather<O: TypedObject>(
     ensures gathered { IfOk result (AreClientsGathered (O.meaning object.now) life.now pool.now.service pool.now.line.table.shared.table_id) }
     ensures all { IfOk result (λ g. length g.clients.items ≡ vec_len works) }
 {
+    // no clients have no lines: what the loop begins with
     works_begin::<O::Op, O::Reply>();
+    // the next client's lines go behind those of all clients before it: one turn of the loop
     works_go_on::<O::Op, O::Reply>();
     let clients = Vec::new(alloc);
     let lines = Lines::new(alloc);

@@ -1,4 +1,4 @@
-//! What a closed service tells of clients that shared its callers.
+//! The law on a record of clients that shared the callers of a closed service.
 
 ghost use Rattle.std.specs.Prelude.{ℕ};
 ghost use Rattle.cx_core.specs.Base.{LawfulBase};
@@ -16,8 +16,8 @@ use cx_core::Base;
 use life_records::steps_are_meant;
 use typed_object::TypedObject;
 
-/// Where a record is told by a lawful state of a service whose callers clients shared, each line is one of an entry or a read of a caller; and with a base that
-/// was kept of that state the record is one of a legal life.
+/// The law on a record of clients that shared the callers of a service, where it agrees with a lawful state of the service (`IsPoolRecorded`): each line of it
+/// is one of an entry or a read of a caller; and with a base that was kept of that state the record is one of a legal life.
 pub fn told_pools_have_lived<O: TypedObject>(object: &O, base: &Base)
     requires { LawfulBase (O.line_count object.now) (O.lawful object.now) base.now }
     ensures { (callers : ℕ) (s : State) (store : O.Store) (life : Life O.Op) (told : LifeRecord O.Reply) (next : entry_base.Base)
@@ -26,5 +26,6 @@ pub fn told_pools_have_lived<O: TypedObject>(object: &O, base: &Base)
         IsKeptIn (O.meaning object.now) (object_instance (O.step object.now) (O.only_reads object.now) callers base.now) s law.history told next →
         IsLegalLife (O.meaning object.now) base.now.place store life told × AreToldIn (O.meaning object.now).encoding life base.now.place law.history is.locals told }
 {
+    // the object's steps are what its operations mean
     steps_are_meant(object);
 }

@@ -49,6 +49,7 @@ pub(crate) fn live<O: TypedObject + Sync, R: Threads + Wait + Sync, G: Gate + Sy
     } = gather(alloc, object, &pool, life, works)?;
     let Lines { mut entries, reads } = lines;
     entries.sort_unstable_by_key(|line| line.ticket);
+    // the object's steps are what its operations mean
     steps_are_meant(object);
     let Ok(remains) = pool.close(rt, alloc, clients) else {
         return Err(AllocError);

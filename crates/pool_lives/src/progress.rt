@@ -14,7 +14,8 @@ use std::alloc::{AllocError, Global};
 use std::sync::Wait;
 use typed_object::TypedObject;
 
-/// Makes the client's command of this number, and notes its line. `false` is what cannot be: there was no further ticket, or a reply whose words are of none.
+/// Makes the client's command of this number, and adds the line of its answer to `lines`. `false` is what cannot be: there was no further ticket, or the
+/// words of the answer are no reply.
 /// `Err` means out of memory.
 pub(crate) fn make<O: TypedObject, R: Wait>(
     rt: &R,

@@ -20,7 +20,8 @@ use typed_object::TypedObject;
 
 /// Runs a life whose clients share `seats` callers of one service, from the object's opening on: one worker for each client, on a thread of its own, makes the
 /// client's commands in order, and tries again where no cell is idle. A worker whose thread cannot be started is run by the calling thread. Then the pool is
-/// closed, and the life ends in a crash. The life's choice takes the code whose place ends what is kept, as in `cx_lives::run_lives`; so it does with the gate.
+/// closed, and the life ends in a crash. As in `cx_lives::run_lives`, the life's choice picks the root code whose place ends what is kept, and each worker
+/// passes the gate before and after each command.
 /// Where a client is lent a caller that has not seen all that the client was answered before, the caller reads the probe until it has: the probe is an
 /// operation that only reads.
 ///
@@ -50,9 +51,13 @@ pub fn run_pool<O: TypedObject + Sync, R: Threads + Wait + Sync, G: Gate + Sync>
         items: crashed.items,
         ..told
     };
+    // each operation of the life is a value of its type
     operations_are_values(object, life);
+    // each reply of the record is a value of its type
     replies_are_values(object, &pooled);
+    // the record is one of a legal life, where its lines are those of the callers' calls
     told_pools_have_lived(object, &base);
+    // the object's steps are what its operations mean
     steps_are_meant(object);
     Ok((pooled, remains))
 }

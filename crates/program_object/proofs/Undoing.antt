@@ -28,7 +28,7 @@ put_back size at v before within =
     ∙ set-set before at v (slice_index before at)
     ∙ set-get_or before at 0
 
--- and so with all that was made before it
+-- undoing one store more, and then all stores before it, leads to what undoing those before it leads to
 pub undone_more : (size n at v old : ℕ) (p w before : List ℕ) → n < length p → n < length w → at < size → old ≡ slice_index before at →
     undone size (n + 1) (slice_set p n at) (slice_set w n old) (slice_set before at v) ≡ undone size n p w before
 undone_more size n at v old p w before lp lw within is =
@@ -62,7 +62,7 @@ granted_store writes words place u address value word m undo before from below a
   still = λ no. cc;
 }
 
--- and the same by what is known of the words after it
+-- a store was granted where the words after it, and what was kept to undo it, are known by equations
 pub granted_store_at : (writes : Bool) (words place : ℕ) (u : Unit) (address value word changed : ℕ) (w : Wish) (m : Machine) (undo undo' : Undo) (before now : List ℕ) →
     w ≡ Stores place u address value → 8 ≤ place → place < words → writes ≡ true → undo.count < 256 → length undo.places ≡ 256 → length undo.words ≡ 256 → slice_index before place ≡ word →
     undo' ≡ store_noted undo place word → now ≡ slice_set before place changed → changed ≡ with_part u address word value →

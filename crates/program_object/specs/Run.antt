@@ -112,7 +112,7 @@ pub record Stepped (p : Setting) (m : Machine) (u : Undo) (before : List ℕ) (n
   pub back : undone p.words u'.count u'.places u'.words now ≡ undone p.words u.count u.places u.words before
   pub still : IsFalse p.writes → now ≡ before
 
--- and a whole run
+-- a run was made to its end: its end, and what undoing its stores leads to
 pub record RunsToEnd (p : Setting) (fuel : ℕ) (m : Machine) (u : Undo) (before : List ℕ) (end : RunEnd) (m' : Machine) (u' : Undo) (now : List ℕ) : Type 0 where
   pub does : run fuel p (state m u before) ≡ (end, state m' u' now)
   pub back : undone p.words u'.count u'.places u'.words now ≡ undone p.words u.count u.places u.words before

@@ -32,8 +32,8 @@ pub struct ProgramObject {
 }
 
 impl ProgramObject {
-    /// The object of a program, with 1 to 2^26 lines and a fuel of at most 2^20. Images of a program with the fingerprint `before` are taken over, where that
-    /// is another one. `None` says that one of these numbers does not fit.
+    /// The object of a program, with 1 to 2^26 lines and a fuel of at most 2^20. Images of a program with the fingerprint `before` are taken over; it has
+    /// to be another than this program's own. `None` where one of these numbers does not fit.
     pub fn of(program: Program, lines: u64, fuel: u64, before: Option<u64>) -> Option<ProgramObject>
         ensures { let version = prints.fingerprint (program_words program) (length (instructions_of program)) fuel in MatchOption result (spec.numbers_fit lines fuel version before ≡ false)
             (λ o. (o.program ≡ program) × (o.lines ≡ lines) × (o.fuel ≡ fuel) × (o.before ≡ before) × (o.version ≡ version)) }

@@ -9,7 +9,7 @@ use cx_base::{Halt, Memory, OpWords};
 use program_code::Instruction;
 use program_machine::{Machine, RunEnd, RunFault, Wish, part, with_part};
 
-/// Gives an instruction what it wishes of the object's words, and says whether the run ends.
+/// Gives an instruction what it wishes of the object's words, and returns the end of the run, if it ends there.
 #[inline(always)]
 fn grant<M: Memory>(
     wish: Wish,
@@ -75,7 +75,7 @@ fn end_by_fault(machine: &Machine, kind: RunFault, address: u64) -> Option<RunEn
     })
 }
 
-/// Does one instruction, and says whether the run ends.
+/// Does one instruction, and returns the end of the run, if it ends there.
 #[inline(always)]
 fn step<M: Memory>(
     code: &[Instruction],

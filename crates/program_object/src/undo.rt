@@ -29,7 +29,7 @@ impl Undo {
         }
     }
 
-    /// Notes a store more.
+    /// Adds a store: its place, and the word that it replaced.
     pub fn push(&mut self, place: u64, word: u64)
         requires { self.old.count < 256 }
         ensures pushed { self.new ≡ spec.store_noted self.old place word }
@@ -42,7 +42,8 @@ impl Undo {
     }
 }
 
-/// Puts back what stores replaced, the last first. What is no place is left out. `Halt` comes only where no access is left.
+/// Puts back the words that stores replaced, the last store's first. A place that is none of the `words` words is left out. `Halt` comes only where no
+/// access is left.
 pub fn undo_all<M: Memory>(mem: &mut M, words: u64, undo: &Undo) -> Result<(), Halt>
     requires size { M.size mem.old ≡ words }
     requires few { undo.now.count ≤ 256 }
@@ -56,7 +57,7 @@ pub fn undo_all<M: Memory>(mem: &mut M, words: u64, undo: &Undo) -> Result<(), H
     Ok(())
 }
 
-/// Puts one word back, where there is such a place.
+/// Puts `word` back at `place`, where `place` is below `words`.
 fn put_back<M: Memory>(mem: &mut M, words: u64, place: u64, word: u64) -> Result<(), Halt>
     requires size { M.size mem.old ≡ words }
     requires writable { IsTrue (M.writable mem.old) }

@@ -1,4 +1,4 @@
--- What a script is: what a line says, where it may stand, and what lines say together.
+-- What a script is: how each of its lines is spelled, where a line may stand, and which script the lines are together.
 use Rattle.std.specs.Prelude.{◌≡◌, ◌⊎◌, ◌^◌, ◌<◌, ◌≤◌, ℕ, Bool, true, false, ◌==◌, List, [], ◌∷◌, ◌++◌, length, codes, Option, None, Some, Result, Ok, Err, if◌then◌else◌}
 use Rattle.std.specs.Fmt.{decimal}
 use Rattle.std.specs.Str.{is_utf8}
@@ -61,7 +61,7 @@ module _ {Op : Type 0} where
   abbrev pub with_command : Command Op → Life Op → Life Op
   with_command command life = record life { commands = life.commands ++ command ∷ [] }
 
-  -- the script with what one more line says
+  -- the script with one more line
   abbrev pub with_said : Script Op → ScriptLine Op → Script Op
   with_said script (forms.Lines lines) = record script { lines = lines }
   with_said script (forms.Life clients choice) =
@@ -79,7 +79,7 @@ module _ {Op : Type 0} where
   no_script = record { lines = 0; lives = [] }
 
 module _ {Op Reason : Type 0} where
-  -- A line says this: `lines L`, `life N power C`, `cut K S`, or `K COMMAND`.
+  -- how a line is spelled: `lines L`, `life N power C`, `cut K S`, or `K COMMAND`
   abbrev pub SaysScriptLine : Commands Op Reason → ScriptLine Op → List ℕ → Type 0
   SaysScriptLine commands (forms.Lines lines) line = (line ≡ codes "lines " ++ decimal lines) × (64 ≤ lines) × (lines ≤ 16384)
   SaysScriptLine commands (forms.Life clients choice) line =

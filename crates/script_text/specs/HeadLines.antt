@@ -1,4 +1,4 @@
--- How the lines that say no command are spelled, and that they are read from that.
+-- How the lines without a command are spelled, and that they are read from that.
 use Rattle.std.proofs.Common.{◌≡◌, ℕ, ◌^◌, ◌<◌, ◌≤◌, false, cond, leb, ltb, ◌&&◌, List, ◌∷◌, ◌++◌, Option, None, Some, refl, sym, ap, subst, ◌∙◌, append_assoc, arith}
 use Rattle.std.specs.Prelude.{codes, option_and_then}
 use Rattle.std.specs.Option.{option_map}

@@ -1,4 +1,4 @@
--- Scripts are read by their grammar, line by line, and the reason that is told is the first that fits.
+-- Scripts are read by their grammar, line by line, and the reason of a refusal is the first that fits.
 use Rattle.std.specs.Prelude.{codes, ◌⊎◌, is_some}
 use Rattle.std.specs.Option.{option_map, ok_or}
 use Rattle.std.specs.Str.{is_utf8}

@@ -1,4 +1,4 @@
-//! The lines that say no command.
+//! The lines of a script that have no command: its header, the first lines of lives, and cut lines.
 
 ghost use Rattle.std.specs.Prelude.{◌≡◌};
 ghost use Rattle.std.specs.Option.{option_copied};

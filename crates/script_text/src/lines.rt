@@ -1,4 +1,4 @@
-//! What a line of a script says, and why one is refused.
+//! The lines of a script, and why a line is refused.
 
 use life_records::{Command, Cut};
 
@@ -10,7 +10,7 @@ pub struct ScriptLimits {
     pub cuts: bool,
 }
 
-/// What one line of a script says.
+/// One line of a script, as it was read.
 #[derive(Drop)]
 pub enum ScriptLine<Op> {
     /// The number of lines of the store: `lines L`.

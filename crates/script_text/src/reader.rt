@@ -28,13 +28,13 @@ pub fn read_script<C: CommandReader>(
     alloc: Global,
     bytes: &[u8],
 ) -> Result<Script<C::Op>, TextFault<C::Reason>>
-    // What is read is what the text says.
+    // The script that is returned is the one that `bytes` are the text of.
     ensures script { IfOk result (IsTextOf (script_grammar C.commands) bytes.now) }
-    // What is a script is read.
+    // Where `bytes` are the text of a script, that script is returned, unless memory runs out.
     ensures only { (script : Script C.Op) → IsTextOf (script_grammar C.commands) bytes.now script → IsOkOr script result }
     ensures limits { IfOk result (KeepsLimits C.is_op C.commands.limits.clients) }
     ensures within { IfOk result (IsScriptWithin C.commands.limits) }
-    // The line refused is the first with which the lines so far are no script.
+    // The refused line is the first one with which the lines up to it are no script.
     ensures refused { IfErr result (IsFault (script_grammar C.commands) bytes.now) }
 {
     Ok(read_lines(alloc, bytes, Draft::<C>::new(alloc))?.finish())
@@ -104,7 +104,7 @@ impl<C: CommandReader> Draft<C> {
         }
     }
 
-    /// What a line says that is not passed over, or why it is refused. `Err` means out of memory.
+    /// Reads a line that is not passed over: what it adds to the script, or why it is refused. `Err` means out of memory.
     #[tactic(auto, unfolding(crate::specs::Reading::line_of))]
     fn read_line(
         &self,
@@ -159,7 +159,7 @@ impl<C: CommandReader> Draft<C> {
         self.lives.last()
     }
 
-    /// Adds what a line says that may stand here. `Err` means out of memory.
+    /// Adds a line that may stand here to the script. `Err` means out of memory.
     fn add(&mut self, alloc: Global, says: ScriptLine<C::Op>) -> Result<(), AllocError>
         requires { MayStand C.commands self.old says }
         ensures { OnOk result (self.new ≡ with_said self.old says) }
@@ -224,7 +224,7 @@ impl<C: CommandReader> Draft<C> {
     }
 }
 
-/// What a life's first line says, where `count` lives stand before it.
+/// Reads the first line of a life, where `count` lives stand before it: the life's clients and choice, or why the line is refused.
 fn begun<C: CommandReader>(
     count: usize,
     life: Option<(u32, u64)>,
@@ -238,7 +238,7 @@ fn begun<C: CommandReader>(
     }
 }
 
-/// What a line says that stands in a life of `clients` clients with these cuts and begins none, by its first word and the rest. `count`
+/// Reads a line in a life of `clients` clients with these cuts, which begins no life, by its first word and the rest. `count`
 /// commands stand before it.
 fn read_in<C: CommandReader>(
     alloc: Global,

@@ -144,7 +144,7 @@ fit_set r views pass w mine all j u e = ⊎_elim (λ x. subst (FitsHand r) x.1 m
 fit_snoc : (r : Shown) (views : List LenderPass) (w : LenderPass) → FitsHand r w → AllFit r views → AllFit r (views ++ w ∷ [])
 fit_snoc r views w mine all j u e = ⊎_elim (λ x. all j u x) (λ x. subst (FitsHand r) x mine) (at_snoc views w u j e)
 
--- with parts, nothing is owed of a pass without
+-- a pass that knows the service and has a part fits the rule: what the rule asks of a pass without parts does not concern it
 keeps_parts : (r : Shown) (v : LenderPass) → FitsHome r v.parts v.home → 0 < v.parts → FitsHand r v
 keeps_parts r v fits some_part = record { home = fits; idle = λ none. absurd (omega (arith, some_part, none)) }
 
@@ -178,7 +178,7 @@ moves items after views pass v w k at fits are room b = record {
       omega (arith, shown, held, k.reads h, b.reads h));
 }
 
--- nobody is placed
+-- where one pass changes and places nobody, all passes have placed no more callers than before
 same_room : (views : List LenderPass) (pass : ℕ) (v w : LenderPass) (n : ℕ) → get_elem? views pass ≡ some v → w.placed ≡ v.placed → total_weight (λ (u : LenderPass). length u.placed) views ≤ n → total_weight (λ (u : LenderPass). length u.placed) (set views pass w) ≤ n
 same_room views pass v w n at placed room =
     let s = total_set (λ (u : LenderPass). length u.placed) views pass v w at in
@@ -373,7 +373,7 @@ opens pass home items views (inr k) at = (let none : all_parts ≡ 0 = (k.views_
 pub not_full : (v : LenderPass) (items : List Seated) → TellsRoom v items → v.parts ≡ all_parts → length items ≤ length v.placed
 not_full v items tells parts = omega (arith, (tells.whole parts).callers (λ _. 1), units ℕ v.placed, units Seated v.held, units Seated items)
 
--- so a queue with room for all callers is not full while one is still to be placed
+-- a queue with room for all callers is not full while one is still to be placed, where the pass has every part
 pub is_short : (v : LenderPass) (cap n : ℕ) → v.parts ≡ all_parts → length v.placed < n → cap ≡ n → Held cap (TellsRoom v) → ⊥
 is_short v cap n parts room fits (items, long, tells) = (let most = not_full v items tells parts in absurd (omega (arith, most, long, fits, room)))
 

@@ -130,8 +130,8 @@ pub record IsRestOf {O : Type 0} (r : Running O) (v : LenderPass) (lent : ℕ) :
   pub told_calls : v.told_calls ≡ []
   pub shown : v.shown ≡ []
 
--- The answered calls of the callers are those that were told to clients, each once, and at most one further of each stopped caller. The reads that
--- clients were shown are among theirs. The callers that clients keep are among them, and the others are in no call.
+-- The answered calls of the callers are those that clients' passes know of, each once, and at most one further of each stopped caller. The reads that
+-- these passes know of are among theirs. The callers that clients keep are among them, and the others are in no call.
 pub record AreCallsTold {O : Type 0} (r : Running O) (lents : List Lent) (handed : List Handed) : Type 0 where
   pub of : All (IsHandedOf r) handed
   pub untold : List AnsweredCall

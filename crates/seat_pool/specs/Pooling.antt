@@ -1,4 +1,4 @@
--- The rule of a queue that lends the callers of one service: where each caller is, and to whom its calls were told.
+-- The rule of a queue that lends the callers of one service: where each caller is, and which pass knows of each of its answered calls.
 use Rattle.std.specs.Prelude.{◌≡◌, ◌+◌, ◌-◌, ◌<◌, ◌≤◌, ◌⊎◌, ℕ, List, [], ◌∷◌, ◌++◌, All, Option, Some, None, drop, length, slice_get}
 use mathlib.Core.Option.{some}
 use lib.ListN.{get_elem?}
@@ -90,7 +90,8 @@ with_placed v x = hand v.home v.parts (v.placed ++ x.known.local.number ∷ []) 
 abbrev pub with_taken : LenderPass → Seated → LenderPass
 with_taken v x = hand v.home v.parts v.placed (x ∷ v.held) v.told_calls v.shown v.returned
 
--- the first of those held was given back: the calls that it has more are told, the reads that it has more are shown, and both of its states are noted
+-- The first of the callers held was given back: the pass learns of the calls and the reads that the caller has more than when it was taken, and keeps the
+-- caller as it was then and as it is now.
 abbrev pub given_from : LenderPass → List Seated → Seated → LenderPass
 given_from v [] x = v
 given_from v (y ∷ rest) x =

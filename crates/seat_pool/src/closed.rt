@@ -19,8 +19,8 @@ use cx_table::Remains;
 use std::alloc::Global;
 use std::sync::Wait;
 
-/// Closes a service whose callers are in the queue or kept by clients, where `lents` are all that was lent of it. The calls that the clients were told
-/// are those that the callers show as answered, each once, but for at most one of each stopped caller, which was told to nobody. `Err` comes only where
+/// Closes a service whose callers are in the queue or kept by clients, where `lents` are all that was lent of it. The calls that the passes learned
+/// of are those that the callers show as answered, each once, but for at most one of each stopped caller, which no pass knows. `Err` comes only where
 /// memory runs out, and hands back the service and all its callers, of caller 0 first. The two rooms are for the callers.
 pub fn close<O: Object, R: Wait>(
     rt: &R,

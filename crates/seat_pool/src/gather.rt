@@ -20,7 +20,7 @@ use cx_base::Object;
 use cx_service::{Caller, Handed, Service};
 use std::sync::Wait;
 
-/// Takes in what was lent to a client.
+/// Takes in what was lent to a client: adds what its pass knows and holds to `pass`, and the caller that it keeps to `gathered`.
 pub(crate) fn take_in<O: Object>(
     service: &Service<O>,
     line: &LenderQueue,
@@ -43,7 +43,7 @@ pub(crate) fn take_in<O: Object>(
     gathered
 }
 
-/// Takes all callers out of the queue that no client holds a part of.
+/// Takes all callers out of the queue and adds them to `gathered`. `pass` has every part, so no client has a pass any more.
 pub(crate) fn drain<O: Object, R: Wait>(
     rt: &R,
     service: &Service<O>,
@@ -79,7 +79,7 @@ fn number(handed: &Handed) -> u32
     }
 }
 
-/// The place of the caller of this number.
+/// The place in `gathered` of the caller of the number `wanted`, which is there.
 fn find(gathered: &Vec<Handed>, wanted: usize) -> usize
     requires { 0 < total_weight (λ g. one_at wanted (handed_number g)) gathered.now.items }
     ensures { IsNumberAt gathered.now.items result wanted }
@@ -94,7 +94,7 @@ fn find(gathered: &Vec<Handed>, wanted: usize) -> usize
     unreachable!()
 }
 
-/// The gathered callers, of caller 0 first, where each of the service is there once.
+/// Puts the gathered callers in order, caller 0 first, where each caller of the service is there once. `out` has room for all.
 pub fn in_order<O: Object>(
     service: &Service<O>,
     gathered: Vec<Handed>,
@@ -115,8 +115,8 @@ pub fn in_order<O: Object>(
     out
 }
 
-/// All callers of the service, of caller 0 first, where `lents` are all that was lent of the queue. The calls that were told are the callers' answered
-/// calls, but for at most one of each stopped caller, which was told to nobody.
+/// All callers of the service, of caller 0 first, where `lents` are all that was lent of the queue. The calls that their passes learned
+/// of are the callers' answered calls, but for at most one of each stopped caller, which no pass knows.
 pub(crate) fn gather<O: Object, R: Wait>(
     rt: &R,
     service: &Service<O>,

@@ -4,7 +4,7 @@ use crate::hand::LenderPass;
 use crossbeam_queue::Pass;
 use cx_service::{Caller, Handed};
 
-/// What a client has of a queue: its pass, and the caller that it keeps, in whatever state that is.
+/// What is lent to a client: its pass of the queue, and the caller that it keeps between its calls, in whatever state that is.
 #[derive(Drop)]
 pub struct Lent {
     pub pass: Pass<Caller, LenderPass>,

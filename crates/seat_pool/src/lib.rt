@@ -9,18 +9,18 @@
 //! part of this crate.
 //!
 //! What holds at every moment is the rule `LenderRule` (`Pools` and `KeepsCallers` in `specs/Pooling.antt`): the queue holds callers of one service, in no
-//! call; each caller that was placed is in the queue or held by one pass; the calls that passes were told are the answered calls of the callers (an entry
-//! with its answer), each once, where a held caller counts with those that it had when it was taken out; and the reads that passes were shown are among the
+//! call; each caller that was placed is in the queue or held by one pass; the calls that passes know of are the answered calls of the callers (an entry
+//! with its answer), each once, where a held caller counts with those that it had when it was taken out; and the reads that passes know of are among the
 //! callers'. Its kinds of step are a push and a pop.
 //!
 //! - `open`, `place`: a queue for a service, and its callers in it.
 //! - `take` gives a caller of the service, with the limit that it was placed with. `give` gives the pass's last caller back, and what it was answered since is
-//!   told to the pass in the same push; it never fails, so no caller is lost. The pass notes each caller that it gave back, as it was when it was taken and as
-//!   it was then: so a contract can say which caller a call was made by. `answers_are_told`: after an update those are the update's entry with its answer;
-//!   `reads_are_shown`: after reads nothing is told, and they are shown.
+//!   learned by the pass in the same push; it never fails, so no caller is lost. The pass keeps each caller that it gave back, as it was when it was taken and
+//!   as it was then: so a contract can name the caller by which a call was made. `answers_are_told`: after an update the pass learns of the update's entry;
+//!   `reads_are_shown`: after reads the pass learns of no call, and of these reads.
 //! - `share` makes a further pass, and `merge` puts what another pass knows and holds to this one.
 //! - `close`: with all that was lent, the queue is emptied and the service closed. All callers are handed in, each once and of caller 0 first (also those that
-//!   are stopped), and the calls that the callers show as answered are those that were told, each once, but for at most one of each stopped caller
+//!   are stopped), and the calls that the callers show as answered are those that passes know of, each once, but for at most one of each stopped caller
 //!   (`AreCallsTold`).
 //!   `idle_are_kept`, `stopped_are_kept`: a caller in no call, and one that was stopped, are such that a client may keep until then.
 //! - `in_order`: callers that were gathered in whatever way, of caller 0 first.

@@ -44,7 +44,7 @@ fn open_for<O: Object, K: Known>(
     Ok((line, pass))
 }
 
-/// Places a caller whose calls were told to nobody in the queue, which has room for all callers of the service.
+/// Places a caller that was answered no call yet in the queue, which has room for all callers of the service. `pass` has every part.
 pub fn place<O: Object, R: Wait>(
     rt: &R,
     service: &Service<O>,
@@ -70,6 +70,7 @@ pub fn take<O: Object, R: Wait>(
     line: &LenderQueue,
     pass: &mut Pass<Caller, LenderPass>,
 ) -> Option<Caller>
+    // Three facts: the pass is one of this queue, it knows that the queue is this service's, and it has a part, by which it may take a caller.
     requires { IsPassOf line.now pass.old × IsHomeOf service.now (view pass.old).home × (0 < (view pass.old).parts) }
     ensures pass { IsPassOf line.now pass.new }
     ensures caller { MatchOption result ((view pass.new ≡ view pass.old) × Held 0 (TellsRoom (view pass.old))) (λ x. IsCallerOf service.now x × HasLimit (limits_at (view pass.old).home) x × (view pass.new ≡ with_taken (view pass.old) x) × (length (view pass.old).held < service.now.callers)) }
@@ -77,8 +78,8 @@ pub fn take<O: Object, R: Wait>(
     line.pop_as::<Takes, R>(rt, pass)
 }
 
-/// Gives back the caller that the pass took last. The calls that it has more since are told to the pass in the same step, the reads are shown, and what the
-/// caller was when it was taken and is now is noted.
+/// Gives back the caller that the pass took last. In the same step the pass learns of each call that the caller was answered since it was taken, with its
+/// answer, and of each read; and it keeps the caller as it was when it was taken, and as it is now.
 pub fn give<O: Object, R: Wait>(
     rt: &R,
     service: &Service<O>,
@@ -97,12 +98,13 @@ pub fn give<O: Object, R: Wait>(
     }
 }
 
-/// A further pass, with one part.
+/// Makes a further pass, which gets one part of `pass`: one of the 1,024 parts into which the right to know the whole queue is cut.
 pub fn share<O: Object>(
     service: &Service<O>,
     line: &LenderQueue,
     pass: &mut Pass<Caller, LenderPass>,
 ) -> Pass<Caller, LenderPass>
+    // Three facts: the pass is one of this queue, it knows that the queue is this service's, and it has a part to give beside one for itself.
     requires { IsPassOf line.now pass.old × IsHomeOf service.now (view pass.old).home × (1 < (view pass.old).parts) }
     ensures old { IsPassOf line.now pass.new × (view pass.new ≡ cut_left (view pass.old)) }
     ensures new { IsPassOf line.now result × (view result ≡ cut_right (view pass.old)) }
@@ -111,7 +113,7 @@ pub fn share<O: Object>(
     line.another::<Parted>(pass)
 }
 
-/// Puts what another pass knows and holds to this one.
+/// Adds what `other` knows and holds, and its parts, to `pass`. `other` is used up.
 pub fn merge<O: Object>(
     service: &Service<O>,
     line: &LenderQueue,
@@ -125,7 +127,7 @@ pub fn merge<O: Object>(
     line.absorb::<Parted>(pass, other);
 }
 
-/// What the pass knows of the queue at one moment of the call.
+/// Gives the proof what the rule says of the queue at one moment of the call: the pass holds no more callers than the service has. Nothing changes.
 pub fn learn<O: Object>(
     service: &Service<O>,
     line: &LenderQueue,

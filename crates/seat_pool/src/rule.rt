@@ -1,4 +1,4 @@
-//! The rule of the queue, and what its steps tell.
+//! The rule of the queue, and what a pass knows after each kind of step.
 
 use crate::hand::LenderPass;
 use crossbeam_queue::RuledArrayQueue;
@@ -21,7 +21,7 @@ impl Protocol<Caller, LenderPass> for LenderRule {
 /// A queue that lends callers.
 pub type LenderQueue = RuledArrayQueue<Caller, LenderPass, LenderRule>;
 
-/// Which service the callers of a queue are of. A call picks it.
+/// A type that stands, in proofs, for the service whose callers a queue lends. Each call of `open` has its own.
 pub trait Known {
     ghost use Rattle.seat_pool.specs.declared.hand.ServiceView as hand_home;
 
@@ -45,7 +45,7 @@ impl Known for Brand {
     } };
 }
 
-/// The first pass learns the service.
+/// The step by which the first pass learns which service lends its callers. It gives off a pass that knows nothing.
 pub(crate) struct Opens<K> {
     by: PhantomData<K>,
 }
@@ -58,7 +58,7 @@ impl<K: Known> Split<LenderPass> for Opens<K> {
     ghost right = { λ v. nothing };
 }
 
-/// A pass with one part is made of another, and what two passes know and hold is put together.
+/// The step that cuts one part off a pass and makes it a further pass, and the step that puts what two passes know and hold together in one.
 pub(crate) struct Parted;
 
 impl Split<LenderPass> for Parted {
@@ -77,7 +77,7 @@ impl Join<LenderPass> for Parted {
     ghost spent = { nothing };
 }
 
-/// A caller is placed in the queue.
+/// The step that places a caller in the queue for the first time.
 pub(crate) struct Places;
 
 impl Outcome<Caller, LenderPass> for Places {
@@ -93,7 +93,7 @@ impl Lesson<Caller, LenderPass> for Places {
     ghost fact = { λ v items. TellsRoom v items };
 }
 
-/// A caller is taken out.
+/// The step that takes a caller out of the queue. The pass holds it then, as it was in that step.
 pub(crate) struct Takes;
 
 impl Outcome<Caller, LenderPass> for Takes {
@@ -108,7 +108,7 @@ impl Lesson<Caller, LenderPass> for Takes {
     ghost fact = { λ v items. TellsRoom v items };
 }
 
-/// A caller is given back, and its new calls are told in the same step.
+/// The step that gives back the caller that the pass took last, by which the pass learns of the caller's new answered calls and reads.
 pub(crate) struct Gives;
 
 impl Outcome<Caller, LenderPass> for Gives {

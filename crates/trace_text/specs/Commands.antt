@@ -18,17 +18,21 @@ AsksReading op text = ⊥
 
 -- ---- how one is read
 
+-- an operation with this key, where it is a key
 abbrev pub keyed : (List ℕ → Op) → List ℕ → Option Op
 keyed make key = if is_key key then Some (make key) else None
 
+-- behind `get` or `rev`: KEY
 abbrev pub keyed_of : (List ℕ → Op) → Option (List ℕ) → Option Op
 keyed_of make None = None
 keyed_of make (Some key) = keyed make key
 
+-- behind `next`: nothing, or KEY
 abbrev pub next_of : Option (List ℕ) → Option Op
 next_of None = Some (Next [])
 next_of (Some key) = keyed Next key
 
+-- a command by its VERB and what stands behind it: `get` KEY, `rev` KEY, `next`, `next` KEY, or `count`
 unfoldable pub reading_by : List ℕ → Option (List ℕ) → Option Op
 reading_by verb rest =
     if is_word (codes "get") verb then keyed_of Get rest
@@ -37,6 +41,7 @@ reading_by verb rest =
     else if is_word (codes "count") verb && not (is_some rest) then Some Count
     else None
 
+-- a command that only reads: VERB, and what stands behind it
 unfoldable pub reading_of : List ℕ → Option Op
 reading_of text = reading_by (first_word text) (rest_of text)
 

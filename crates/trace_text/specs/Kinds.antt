@@ -9,6 +9,7 @@ use Rattle.doc_model.specs.Words.{op_words}
 use Rattle.doc_model.specs.declared.operations.Op.{Op}
 use Rattle.trace_text.specs.Commands.{AsksReading}
 
+-- the name of a kind of step, as it is written in a trace
 abbrev pub kind_name : Kind → List ℕ
 kind_name (WriteCell j i v) = codes "write_cell"
 kind_name (Link j) = codes "link"
@@ -40,6 +41,7 @@ kind_name (ReadSet k t i) = codes "read_set"
 kind_name (NoteGap s i v) = codes "note_gap"
 kind_name (LoadGap s i) = codes "load_gap"
 
+-- the numbers that are written behind the name of a kind of step, in their order
 abbrev pub kind_numbers : Kind → List ℕ
 kind_numbers (WriteCell j i v) = j ∷ i ∷ v ∷ []
 kind_numbers (Link j) = j ∷ []
@@ -72,6 +74,7 @@ kind_numbers (NoteGap s i v) = s ∷ i ∷ v ∷ []
 kind_numbers (LoadGap s i) = s ∷ i ∷ []
 
 -- each number behind a space
+-- numbers as text, each behind a space
 abbrev pub numbers_text : List ℕ → List ℕ
 numbers_text [] = []
 numbers_text (n ∷ ns) = codes " " ++ (decimal n ++ numbers_text ns)
@@ -83,6 +86,7 @@ EndsKindLine (Raise code (Some words)) end_ =
     (op : Op) × (command : List ℕ) × AsksReading op command × (words ≡ op_words op) × (end_ ≡ codes " read " ++ command)
 EndsKindLine kind end_ = end_ ≡ []
 
+-- the text of a kind of step: its name, its numbers, each of 64 bits, and what stands behind them
 pub record IsKindText (kind : Kind) (text : List ℕ) : Type 0 where
   pub end_ : List ℕ
   pub spelled : text ≡ kind_name kind ++ (numbers_text (kind_numbers kind) ++ end_)
@@ -91,6 +95,7 @@ pub record IsKindText (kind : Kind) (text : List ℕ) : Type 0 where
 
 -- ---- how one is read
 
+-- a kind of step without numbers, by its NAME
 unfoldable pub kind_without : List ℕ → Option Kind
 kind_without name =
     if is_word (codes "load_free") name then Some LoadFree
@@ -102,6 +107,7 @@ kind_without name =
     else if is_word (codes "open_free") name then Some OpenFree
     else None
 
+-- a kind of step with one number: NAME A
 unfoldable pub kind_with_one : List ℕ → ℕ → Option Kind
 kind_with_one name a =
     if is_word (codes "link") name then Some (Link a)
@@ -117,6 +123,7 @@ kind_with_one name a =
     else if is_word (codes "offer") name then Some (Offer a)
     else None
 
+-- a kind of step with two numbers: NAME A B
 unfoldable pub kind_with_two : List ℕ → ℕ → ℕ → Option Kind
 kind_with_two name a b =
     if is_word (codes "persist") name then Some (Persist a b)
@@ -124,6 +131,7 @@ kind_with_two name a b =
     else if is_word (codes "load_gap") name then Some (LoadGap a b)
     else None
 
+-- a kind of step with three numbers: NAME A B C
 unfoldable pub kind_with_three : List ℕ → ℕ → ℕ → ℕ → Option Kind
 kind_with_three name a b c =
     if is_word (codes "write_cell") name then Some (WriteCell a b c)
@@ -134,18 +142,21 @@ kind_with_three name a b c =
     else if is_word (codes "note_gap") name then Some (NoteGap a b c)
     else None
 
--- the kind of a name with the numbers behind it
+-- a kind of step with two numbers or three, of which two were read: nothing is left, or C
 unfoldable pub with_third : List ℕ → ℕ → ℕ → Option (List ℕ) → Option Kind
 with_third name a b None = kind_with_two name a b
 with_third name a b (Some text) = option_and_then (kind_with_three name a b) (number_of text)
 
+-- a kind of step with one number or more, of which one was read: nothing is left, or B, or B C
 unfoldable pub with_second : List ℕ → ℕ → Option (List ℕ) → Option Kind
 with_second name a None = kind_with_one name a
 with_second name a (Some text) = option_and_then (λ b. with_third name a b (rest_of text)) (number_of (first_word text))
 
+-- a kind of step with numbers, of which none was read: A, or A B, or A B C
 unfoldable pub with_first : List ℕ → List ℕ → Option Kind
 with_first name text = option_and_then (λ a. with_second name a (rest_of text)) (number_of (first_word text))
 
+-- a kind of step by its NAME and its numbers, if it has some
 abbrev pub numbered : List ℕ → Option (List ℕ) → Option Kind
 numbered name None = kind_without name
 numbered name (Some text) = with_first name text

@@ -32,13 +32,13 @@ SaysTraceLine callers (Event event) line =
 SaysTraceLine callers (Crash choice place) line =
     (line ≡ codes "crash " ++ (decimal choice ++ (codes " place " ++ decimal place))) × (choice < 2 ^ 64) × (place < 2 ^ 64)
 
--- what is said with one more line: there are at most 10,000 behind the first
+-- the lines read so far, with one more line: there are at most 10,000 lines behind the first
 abbrev pub AddsTraceLine : TraceLines → List ℕ → TraceLines → Type 0
 AddsTraceLine Nothing line after = (head : ℕ × ℕ) × IsTraceHeadLine head line × (after ≡ Begun (with_head head))
 AddsTraceLine (Begun trace) line after =
     (what : TraceWhat) × SaysTraceLine trace.callers what line × (length trace.steps < 10000) × (after ≡ Begun (with_step trace what))
 
--- Why a line is refused: nothing is said with it, and the reason is the first that fits.
+-- Why a line is refused: it may not stand behind the lines before it, and the reason is the first that fits.
 pub record IsTraceReason (before : TraceLines) (line : List ℕ) (reason : TraceReason) : Type 0 where
   pub none : (after : TraceLines) → AddsTraceLine before line after → ⊥
   pub because : reason ≡ trace_reason_for before
@@ -51,7 +51,7 @@ trace_grammar = record { nothing = Nothing; Adds = AddsTraceLine; IsReason = IsT
 abbrev pub IsTrace : List ℕ → Trace → Type 0
 IsTrace text trace = IsTextOf trace_grammar text (Begun trace)
 
--- what is told of a text that is no trace: the first line with which the lines so far are none, or the first where there is no line
+-- why a text is no trace: its first line with which the lines so far are none, or line 1 where it has no line
 abbrev pub IsTraceFault : List ℕ → TextFault TraceReason → Type 0
 IsTraceFault text (Refused line reason) =
     IsFault trace_grammar text (Refused line reason) ⊎ ((text_lines text ≡ []) × (line ≡ 1) × (reason ≡ reasons.Trace))

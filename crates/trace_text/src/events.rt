@@ -13,7 +13,7 @@ use doc_model::op_words;
 use plain_text::{is_word, number_of, split_word};
 use std::alloc::{AllocError, Global};
 
-/// What a line says that stands behind the first, in a trace of `callers` callers. `Err` means out of memory.
+/// Reads a line behind the first, in a trace of `callers` callers: an event or a crash. `None` where it is neither. `Err` means out of memory.
 #[tactic(auto, unfolding(crate::specs::Reading::what_of))]
 pub(crate) fn read_what(
     alloc: Global,

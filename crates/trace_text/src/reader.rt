@@ -19,9 +19,9 @@ const MAX_STEPS: usize = 10_000;
 /// Reads a trace. It is Ok exactly for traces, unless memory runs out. Other texts are refused by the first line with which the
 /// lines so far are none, or by the first where there is no line.
 pub fn read_trace(alloc: Global, bytes: &[u8]) -> Result<Trace, TraceFault>
-    // What is read is what the text says.
+    // The trace that is returned is the one that `bytes` are the text of.
     ensures read { IfOk result (IsTrace bytes.now) }
-    // What a trace says is read.
+    // Where `bytes` are the text of a trace, that trace is returned, unless memory runs out.
     ensures only { (trace : Trace) → IsTrace bytes.now trace → IsOkOr trace result }
     // Its numbers are within their limits, and each step has the number of its line.
     ensures kept { IfOk result IsTraceWithin }

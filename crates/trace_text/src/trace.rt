@@ -6,7 +6,7 @@ use cx_base::Items;
 use cx_core::Event;
 use std::fmt;
 
-/// What a line says.
+/// A line behind the first: an event of a caller, or a crash.
 #[derive(Clone, Copy, Debug, PartialEq, Eq, Drop)]
 pub enum TraceWhat {
     /// A step of a caller.
@@ -30,7 +30,7 @@ pub struct Trace {
     pub steps: Items<TraceLine>,
 }
 
-/// What the lines say so far.
+/// The trace of the lines read so far: nothing before the first line, and then a trace that has begun.
 #[derive(Drop)]
 pub enum TraceLines {
     /// There is no line.

@@ -4,7 +4,7 @@ use Rattle.client_pool.specs.Pools.{former_of}
 use Rattle.client_pool.specs.declared.client.Client.{Client}
 use Rattle.client_pool.proofs.close.part_clients.Given as goal
 
--- the first clients were parted, and there is room for the others
+-- the first clients were parted into what was lent to them and what is left of them, and both lists have room for the others
 abbrev pub invariant-loop-client : goal.invariant-loop-client
 invariant-loop-client l = record {
   lents_are : l.lents.items ≡ map (λ (c : Client). c.lent) l.yielded;

@@ -5,7 +5,7 @@ use Rattle.cx_lives.specs.Works.{AreResultsFrom, ServedOf, stops_left}
 use Rattle.cx_lives.proofs.Leaving.{HoldersStopped}
 use Rattle.cx_lives.proofs.gather.finish_and_gather.Given as goal
 
--- the first clients are put together, and the others are left
+-- the works of the first clients are put together, and the results of the other workers are left
 abbrev pub invariant-loop-alloc : goal.invariant-loop-alloc
 invariant-loop-alloc g l = record {
   gathered : AreGathered (g.O.TypedObject.meaning l.service.object) l.life l.service l.all;

@@ -28,7 +28,7 @@ invariant-measure_items-items l =
 abbrev pub decreases-measure_items-items : goal.decreases-measure_items-items
 decreases-measure_items-items l = length l.reader
 
--- what was noted is the measure of the members read so far
+-- what is kept of the members is the measure of those read so far
 abbrev pub invariant-measure_members-members : goal.invariant-measure_members-members
 invariant-measure_members-members l =
     (n : ℕ) × (ms : Members) × (length l.reader ≤ n)

@@ -5,7 +5,7 @@ use Rattle.pool_lives.specs.Gathering.{AreClientsGathered}
 use Rattle.pool_lives.specs.Working.{ClientServedOf}
 use Rattle.pool_lives.proofs.gather.gather.Given as goal
 
--- the first clients are put together, and the others are left
+-- the first clients and their lines are put together, and the results of the other workers are left
 abbrev pub invariant-loop-works : goal.invariant-loop-works
 invariant-loop-works g l = record {
   gathered : AreClientsGathered (g.O.TypedObject.meaning l.object) l.life l.pool.service l.pool.line.table.shared.table_id l.all;

@@ -2,6 +2,6 @@ use Rattle.std.proofs.Common.{◌≡◌, drop}
 use Rattle.program_object.specs.Fingerprint.{folded}
 use Rattle.program_object.proofs.fingerprint.fingerprint.Given as goal
 
--- what the words that are left make of it is what all of them make
+-- mixing the words that are left into the fingerprint so far gives the fingerprint of all words
 abbrev pub invariant-loop-word : goal.invariant-loop-word
 invariant-loop-word l = folded l.so_far (drop l.word-index l.words) ≡ folded l.initial.so_far l.words

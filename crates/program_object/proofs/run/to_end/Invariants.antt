@@ -3,7 +3,7 @@ use Rattle.cx_base.specs.Memory.{Becomes, Framed}
 use Rattle.program_object.specs.Run.{RunsOn, setting}
 use Rattle.program_object.proofs.run.to_end.Given as goal
 
--- what is left of the run is what the whole run is
+-- the part of the run that is left, from the machine and the words as they are, ends as the whole run does
 abbrev pub invariant-loop-turn : goal.invariant-loop-turn
 invariant-loop-turn g l = record {
   done : Becomes (g.M.Memory.stands l.fn.mem) (g.M.Memory.stands l.mem)

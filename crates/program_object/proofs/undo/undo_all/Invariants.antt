@@ -3,7 +3,7 @@ use Rattle.cx_base.specs.Memory.{Becomes, Framed}
 use Rattle.program_object.specs.Run.{undone}
 use Rattle.program_object.proofs.undo.undo_all.Given as goal
 
--- what is left to be put back leads to what all of it does
+-- putting back the stores that are left, from the words as they are, leads to what putting back all of them leads to
 abbrev pub invariant-loop-turn : goal.invariant-loop-turn
 invariant-loop-turn g l = record {
   done : Becomes (g.M.Memory.stands l.fn.mem) (g.M.Memory.stands l.mem)
