@@ -41,19 +41,19 @@ pub record IsLeftBy {O : Type 0} (o : Ghosts O) (object : O) (r : Remains) : Typ
   pub leaves : ClosingWitness table (instance_at table o.step o.only_reads) seats r
   pub order : IsLinearizedBy leaves
 
--- it was of this many callers, and opened from this base
+-- what a service of this object left that was of this many callers and opened from this base
 pub record IsServiceFrom {O : Type 0} (o : Ghosts O) (object : O) (callers : ℕ) (base : Base) (r : Remains) : Type 0 where
   pub left : IsLeftBy o object r
   pub callers_are : left.table.callers ≡ callers
   pub base_is : left.table.base ≡ base
 
--- It was so, and what was told is so of each of its callers, of caller 0 first, by its seat as it was before any step and as it was handed in.
+-- what such a service left, and what was told is so of each of its callers, of caller 0 first, by its seat before any step and as it was handed in
 pub record IsServedBy {O T : Type 0} (o : Ghosts O) (object : O) (callers : ℕ) (base : Base) (tells : Running O → Seated → Seated → T → Type 0) (r : Remains) (told : List T) : Type 0 where
   pub served : IsServiceFrom o object callers base r
   pub new : List Seated
   pub are_new : AreNew served.left.table callers new
   pub tells_so : TellsEach (tells served.left.table) new served.left.seats told
 
--- What is recovered by choice of what such a service left: the object after a prefix of its history, which has all that was answered.
+-- What is recovered by choice from what a service left when it was closed: the object after a prefix of its history, which has all that was answered.
 abbrev pub IsKeptOf : {O : Type 0} {o : Ghosts O} {object : O} {r : Remains} → IsLeftBy o object r → ℕ → Base → Type 0
 IsKeptOf {o = o} {r = r} left choice base = IsKeptBy o.line_count o.lawful o.step left.table left.seats r choice base
