@@ -13,7 +13,7 @@ use Rattle.cx_table.specs.Remains.{opening_seat}
 use Rattle.client_pool.specs.Pools.{AreClients, AreNewCallers, AreNewClients, IsNewCaller}
 use Rattle.client_pool.specs.declared.client.Client.{Client}
 use Rattle.client_pool.specs.declared.pool.Pool.{Pool}
-use Rattle.life_tests.specs.Tests.{AreAll}
+use Rattle.life_tests.specs.Tests.{AreCounterClients}
 
 module _ {O : Type 0} where
   each_new : (r : Running O) (limits numbers : List ℕ) → All (IsCallerOf r) (map (opening_seat r limits) numbers) → All (IsNewCaller r) (map (opening_seat r limits) numbers)
@@ -32,5 +32,5 @@ module _ {O : Type 0} where
       }
 
 -- and so are its clients
-pub clients_of : (pool : Pool Counters) (r : Running Counters) (limits : List ℕ) (count : ℕ) (clients : List Client) → pool.service ≡ r → AreNewClients r pool.line.table.shared.table_id limits count clients → AreAll pool clients
+pub clients_of : (pool : Pool Counters) (r : Running Counters) (limits : List ℕ) (count : ℕ) (clients : List Client) → pool.service ≡ r → AreNewClients r pool.line.table.shared.table_id limits count clients → AreCounterClients pool clients
 clients_of pool r limits count clients same new = subst (λ (x : Running Counters). AreClients x pool.line.table.shared.table_id clients) (sym same) new.clients_are

@@ -1,4 +1,4 @@
--- What the tests speak of.
+-- Pools of counters, and their clients.
 use Rattle.std.specs.Prelude.{List}
 use Rattle.bounded_counters.specs.Counters.{counters_read_only}
 use Rattle.bounded_counters.specs.declared.counters.Counters.{Counters}
@@ -8,17 +8,19 @@ use Rattle.client_pool.specs.Pools.{AreClients}
 use Rattle.client_pool.specs.declared.client.Client.{Client}
 use Rattle.client_pool.specs.declared.pool.Pool.{Pool}
 
--- a pool of counters, a client of it, and all its clients
-abbrev pub Counts : Pool Counters → Type 0
-Counts pool = IsPool (λ (_ : Counters). counters_read_only) pool
+-- a pool whose object is the counters
+abbrev pub IsCounterPool : Pool Counters → Type 0
+IsCounterPool pool = IsPool (λ (_ : Counters). counters_read_only) pool
 
-abbrev pub IsOf : Pool Counters → Client → Type 0
-IsOf pool client = IsClientOf pool.service pool.line.table.shared.table_id client
+-- a client of a pool of counters
+abbrev pub IsCounterClient : Pool Counters → Client → Type 0
+IsCounterClient pool client = IsClientOf pool.service pool.line.table.shared.table_id client
 
-abbrev pub AreAll : Pool Counters → List Client → Type 0
-AreAll pool clients = AreClients pool.service pool.line.table.shared.table_id clients
+-- all the clients of a pool of counters
+abbrev pub AreCounterClients : Pool Counters → List Client → Type 0
+AreCounterClients pool clients = AreClients pool.service pool.line.table.shared.table_id clients
 
--- the same client, between its calls
-pub record IsBack (pool : Pool Counters) (before after : Client) : Type 0 where
-  pub client : IsOf pool after
+-- what a call hands back is a client of the pool between its calls, the same one that the call was given
+pub record IsClientBack (pool : Pool Counters) (before after : Client) : Type 0 where
+  pub client : IsCounterClient pool after
   pub same : IsSameClient before after

@@ -2,7 +2,7 @@
 
 ghost use Rattle.std.specs.Prelude.{◌≡◌, true};
 ghost use Rattle.client_pool.specs.Lending.{is_live};
-ghost use Rattle.life_tests.specs.Tests.{Counts, IsBack, IsOf};
+ghost use Rattle.life_tests.specs.Tests.{IsClientBack, IsCounterClient, IsCounterPool};
 
 use crate::holds::holds;
 use crate::pool_starts::opened;
@@ -16,11 +16,11 @@ use std::test::Fail;
 /// No limit of steps.
 const NO_LIMIT: u64 = u64::MAX;
 
-// A client catches up with a place: the place that was found to be the current one where that is below it, and `None` where its caller is stopped.
+// A client catches up with a place. Returns that place, or the current place where this is below it, and `None` where the client's caller is stopped.
 fn found<R: Wait>(rt: &R, pool: &Pool<Counters>, client: &mut Client, place: u64) -> Option<u64>
-    requires pool { Counts pool.now }
-    requires client { IsOf pool.now client.old × (is_live client.old.lent.kept ≡ true) }
-    ensures { IsBack pool.now client.old client.new }
+    requires pool { IsCounterPool pool.now }
+    requires client { IsCounterClient pool.now client.old × (is_live client.old.lent.kept ≡ true) }
+    ensures { IsClientBack pool.now client.old client.new }
 {
     let caught = pool.catch_up(rt, client, place);
     match caught {
@@ -30,11 +30,11 @@ fn found<R: Wait>(rt: &R, pool: &Pool<Counters>, client: &mut Client, place: u64
     }
 }
 
-// The place of a client that added 1, and of one that read: with what it read.
+// A client adds 1: its place then. `None` where this is not done.
 fn added<R: Wait>(rt: &R, pool: &Pool<Counters>, client: &mut Client) -> Option<u64>
-    requires pool { Counts pool.now }
-    requires client { IsOf pool.now client.old × (is_live client.old.lent.kept ≡ true) }
-    ensures { IsBack pool.now client.old client.new }
+    requires pool { IsCounterPool pool.now }
+    requires client { IsCounterClient pool.now client.old × (is_live client.old.lent.kept ≡ true) }
+    ensures { IsClientBack pool.now client.old client.new }
 {
     let mut reply = [0; OP_WORDS];
     let pooled = pool.update(rt, client, &add_words(0, 1), &mut reply);
@@ -44,10 +44,11 @@ fn added<R: Wait>(rt: &R, pool: &Pool<Counters>, client: &mut Client) -> Option<
     }
 }
 
+// A client reads the counter: the place of the read, and what the counter has there. `None` where this is not answered.
 fn read<R: Wait>(rt: &R, pool: &Pool<Counters>, client: &mut Client) -> Option<(u64, u64)>
-    requires pool { Counts pool.now }
-    requires client { IsOf pool.now client.old × (is_live client.old.lent.kept ≡ true) }
-    ensures { IsBack pool.now client.old client.new }
+    requires pool { IsCounterPool pool.now }
+    requires client { IsCounterClient pool.now client.old × (is_live client.old.lent.kept ≡ true) }
+    ensures { IsClientBack pool.now client.old client.new }
 {
     operations_are_read();
     let mut reply = [0; OP_WORDS];
@@ -58,7 +59,8 @@ fn read<R: Wait>(rt: &R, pool: &Pool<Counters>, client: &mut Client) -> Option<(
     }
 }
 
-// Whether a client reads what another one added, once it caught up with that one's place. No place is behind that.
+// `one` adds 1, and `other` catches up with the place behind that: whether `other` then reads `sum`. Before, `other` tries a place that is one higher, and
+// finds the current place below it. `None` where a client is stopped or a call is not answered.
 fn follows<R: Wait>(
     rt: &R,
     pool: &Pool<Counters>,
@@ -66,11 +68,11 @@ fn follows<R: Wait>(
     other: &mut Client,
     sum: u64,
 ) -> Option<bool>
-    requires pool { Counts pool.now }
-    requires one { IsOf pool.now one.old }
-    requires other { IsOf pool.now other.old }
-    ensures one { IsBack pool.now one.old one.new }
-    ensures other { IsBack pool.now other.old other.new }
+    requires pool { IsCounterPool pool.now }
+    requires one { IsCounterClient pool.now one.old }
+    requires other { IsCounterClient pool.now other.old }
+    ensures one { IsClientBack pool.now one.old one.new }
+    ensures other { IsClientBack pool.now other.old other.new }
 {
     if !one.is_live() || !other.is_live() {
         return None;
@@ -97,7 +99,7 @@ fn follows<R: Wait>(
     )
 }
 
-// Two clients follow each other so by turns, over one caller or two.
+// Two clients by turns add 1 and catch up with each other, 20 times, over `callers` callers: whether each reads what the other added.
 fn follow_by_turns<R: Wait>(rt: &R, alloc: Global, callers: u32) -> Result<bool, AllocError> {
     let (pool, clients) = opened(rt, alloc, callers, 2, NO_LIMIT)?;
     let mut clients = clients;
@@ -123,7 +125,7 @@ fn a_client_follows_another(rt: HostRuntime) -> Result<(), Fail> {
     Ok(())
 }
 
-// Whether a client is told so whose caller may make one step, and then makes no further call.
+// Whether a client whose caller may make one step is stopped while it catches up with place 0, and is no longer live then.
 fn is_stopped<R: Wait>(rt: &R, alloc: Global) -> Result<bool, AllocError> {
     let (pool, clients) = opened(rt, alloc, 1, 1, 1)?;
     let mut clients = clients;

@@ -3,7 +3,7 @@
 ghost use Rattle.std.specs.Prelude.{◌≡◌, ◌<◌, ℕ, All, IfOk, slice_index_or, true, vec_len};
 ghost use Rattle.std.specs.List.{AllZip};
 ghost use Rattle.client_pool.specs.Lending.{is_live};
-ghost use Rattle.life_tests.specs.Tests.{AreAll, Counts, IsBack, IsOf};
+ghost use Rattle.life_tests.specs.Tests.{AreCounterClients, IsClientBack, IsCounterClient, IsCounterPool};
 
 use bounded_counters::{Counters, add_words, operations_are_read, read_words};
 use client_pool::{Client, Pool, Pooled, PooledRead};
@@ -12,11 +12,11 @@ use std::alloc::{AllocError, Global};
 use std::sync::Wait;
 use std::thread::{self, Threads, map_vec};
 
-/// A call that adds 1 to counter 0, and one that reads it: whether the client was answered Full.
+/// A client asks to add 1 to counter 0. Returns whether the answer is `Full`, so that the client has to ask again.
 fn adds<R: Wait>(rt: &R, pool: &Pool<Counters>, client: &mut Client) -> bool
-    requires pool { Counts pool.now }
-    requires client { IsOf pool.now client.old × (is_live client.old.lent.kept ≡ true) }
-    ensures { IsBack pool.now client.old client.new }
+    requires pool { IsCounterPool pool.now }
+    requires client { IsCounterClient pool.now client.old × (is_live client.old.lent.kept ≡ true) }
+    ensures { IsClientBack pool.now client.old client.new }
 {
     let mut reply = [0; OP_WORDS];
     let pooled = pool.update(rt, client, &add_words(0, 1), &mut reply);
@@ -26,10 +26,11 @@ fn adds<R: Wait>(rt: &R, pool: &Pool<Counters>, client: &mut Client) -> bool
     }
 }
 
+/// A client asks to read counter 0. Returns whether the answer is `Full`, so that the client has to ask again.
 fn reads<R: Wait>(rt: &R, pool: &Pool<Counters>, client: &mut Client) -> bool
-    requires pool { Counts pool.now }
-    requires client { IsOf pool.now client.old × (is_live client.old.lent.kept ≡ true) }
-    ensures { IsBack pool.now client.old client.new }
+    requires pool { IsCounterPool pool.now }
+    requires client { IsCounterClient pool.now client.old × (is_live client.old.lent.kept ≡ true) }
+    ensures { IsClientBack pool.now client.old client.new }
 {
     operations_are_read();
     let mut reply = [0; OP_WORDS];
@@ -42,9 +43,9 @@ fn reads<R: Wait>(rt: &R, pool: &Pool<Counters>, client: &mut Client) -> bool
 
 /// A live client calls until it is not answered Full: the others give back in time what it needs.
 fn calls<R: Wait>(rt: &R, pool: &Pool<Counters>, client: &mut Client, is_read: bool)
-    requires pool { Counts pool.now }
-    requires client { IsOf pool.now client.old }
-    ensures { IsBack pool.now client.old client.new }
+    requires pool { IsCounterPool pool.now }
+    requires client { IsCounterClient pool.now client.old }
+    ensures { IsClientBack pool.now client.old client.new }
 {
     let mut again = client.is_live();
     for _ in rt.forever() {
@@ -64,9 +65,9 @@ fn calls<R: Wait>(rt: &R, pool: &Pool<Counters>, client: &mut Client, is_read: b
 
 /// A client adds 1 `additions` times, and reads.
 fn works<R: Wait>(rt: &R, pool: &Pool<Counters>, client: Client, additions: u64) -> Client
-    requires pool { Counts pool.now }
-    requires client { IsOf pool.now client }
-    ensures { IsBack pool.now client result }
+    requires pool { IsCounterPool pool.now }
+    requires client { IsCounterClient pool.now client }
+    ensures { IsClientBack pool.now client result }
 {
     let mut client = client;
     for _ in 0..additions {
@@ -76,7 +77,7 @@ fn works<R: Wait>(rt: &R, pool: &Pool<Counters>, client: Client, additions: u64)
     client
 }
 
-/// Clients do so one after another.
+/// The clients make their calls on this thread, one client after another, and all of them are returned.
 fn in_turn<R: Wait>(
     rt: &R,
     alloc: Global,
@@ -84,9 +85,9 @@ fn in_turn<R: Wait>(
     clients: Vec<Client>,
     additions: u64,
 ) -> Result<Vec<Client>, AllocError>
-    requires pool { Counts pool.now }
-    requires clients { All (IsOf pool.now) clients.items }
-    ensures { IfOk result (λ v. AllZip (IsBack pool.now) clients.items v.items) }
+    requires pool { IsCounterPool pool.now }
+    requires clients { All (IsCounterClient pool.now) clients.items }
+    ensures { IfOk result (λ v. AllZip (IsClientBack pool.now) clients.items v.items) }
 {
     let mut worked = Vec::new(alloc);
     for client in clients {
@@ -95,29 +96,29 @@ fn in_turn<R: Wait>(
     Ok(worked)
 }
 
-/// Each does so on a thread of its own.
+/// The clients make their calls, each client on a thread of its own, and all of them are returned.
 fn on_threads<R: Wait + Threads + Sync>(
     rt: &R,
     pool: &Pool<Counters>,
     clients: Vec<Client>,
     additions: u64,
 ) -> Result<Vec<Client>, AllocError>
-    requires pool { Counts pool.now }
-    requires clients { All (IsOf pool.now) clients.items }
+    requires pool { IsCounterPool pool.now }
+    requires clients { All (IsCounterClient pool.now) clients.items }
     ensures long { IfOk result (λ v. vec_len v ≡ vec_len clients) }
-    ensures each { IfOk result (λ v. (i : ℕ) (d : _) (e : _) → i < vec_len clients → IsBack pool.now (slice_index_or clients.items i d) (slice_index_or v.items i e)) }
+    ensures each { IfOk result (λ v. (i : ℕ) (d : _) (e : _) → i < vec_len clients → IsClientBack pool.now (slice_index_or clients.items i d) (slice_index_or v.items i e)) }
 {
     map_vec(
         rt,
         clients,
         &|client: Client| -> Client
-            requires { Counts pool.now × IsOf pool.now client }
-            ensures { IsBack pool.entry.now client result }
+            requires { IsCounterPool pool.now × IsCounterClient pool.now client }
+            ensures { IsClientBack pool.entry.now client result }
         { works(rt, pool, client, additions) },
     )
 }
 
-/// All the clients of a pool do so.
+/// All the clients of a pool make their calls, on threads of their own or one client after another, and all of them are returned.
 pub(crate) fn all_work<R: Wait + Threads + Sync>(
     rt: &R,
     alloc: Global,
@@ -126,9 +127,9 @@ pub(crate) fn all_work<R: Wait + Threads + Sync>(
     additions: u64,
     threads: bool,
 ) -> Result<Vec<Client>, AllocError>
-    requires pool { Counts pool.now }
-    requires clients { AreAll pool.now clients.items }
-    ensures { IfOk result (λ v. AreAll pool.now v.items) }
+    requires pool { IsCounterPool pool.now }
+    requires clients { AreCounterClients pool.now clients.items }
+    ensures { IfOk result (λ v. AreCounterClients pool.now v.items) }
 {
     if threads {
         let worked = on_threads(rt, pool, clients, additions)?;

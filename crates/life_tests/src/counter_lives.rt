@@ -19,19 +19,21 @@ use std::sync::Wait;
 use std::test::Fail;
 use std::thread::Threads;
 
-/// A command of a client alone: a counter, and what is added to it; nothing where it is read.
+/// A command of the only client: the number of a counter, and what is added to it; `None` where it is read.
 type Row = (u64, Option<u64>);
 
-/// Of 511 counters below 1,000, one is added to up to its bound, and one is not there.
+/// What the client asks for in the first life. There are the counters 0 to 510, each of which stays below 1,000.
 const FIRST: [Row; 5] = [
     (1, Some(5)),
     (1, Some(990)),
     (1, None),
+    // 995 and 5 are 1,000, which is refused
     (1, Some(5)),
+    // there is no counter 511
     (511, Some(1)),
 ];
 
-/// What the entries of that life are answered.
+/// The replies to the entries of the first life; the read is no entry.
 const ANSWERS: [Reply; 4] = [
     Reply::Value(5),
     Reply::Value(995),
@@ -39,9 +41,10 @@ const ANSWERS: [Reply; 4] = [
     Reply::Missing,
 ];
 
-/// What a client asks for that is stopped before its first step, and what the last life reads.
+/// What the client asks for in the second life, in which it is stopped before its first step.
 const STOPPED: [Row; 1] = [(1, Some(1))];
 
+/// What the client reads in the last life.
 const LAST: [Row; 1] = [(1, None)];
 
 /// Runs the lives of a script of counters.
@@ -110,7 +113,7 @@ fn cuts(alloc: Global, steps: Option<u64>) -> Result<Items<Cut>, AllocError>
     Ok(cuts)
 }
 
-/// A life of a client alone, which stops after this many steps, if any.
+/// A life of one client with these commands, which is stopped after `cut` steps, or not at all where this is `None`.
 fn life(alloc: Global, cut: Option<u64>, rows: &[Row]) -> Result<Life<Op>, AllocError>
     ensures limits { IfOk result (IsLifeInLimits IsOp 8) }
     ensures count { IfOk result (λ life. length life.commands ≡ length rows.now) }
@@ -135,7 +138,7 @@ fn script(alloc: Global) -> Result<Script<Op>, AllocError>
     Ok(Script { lines: 64, lives })
 }
 
-/// Whether the journal has these answers.
+/// Whether the journal of a life has just the entries with these replies, in their order.
 fn has_answers(told: &LifeRecord<Reply>, wanted: &[Reply]) -> bool {
     for (line, reply) in told.journal.as_slice().iter().zip(wanted) {
         if line.reply != Some(*reply) {
@@ -145,7 +148,7 @@ fn has_answers(told: &LifeRecord<Reply>, wanted: &[Reply]) -> bool {
     told.journal.len() == wanted.len()
 }
 
-/// Whether a read was answered so, alone.
+/// Whether just one read of a life was answered, at this place with this reply.
 fn has_read(told: &LifeRecord<Reply>, place: u64, reply: Reply) -> bool {
     match told.reads.as_slice() {
         [line] => line.place == place && line.reply == reply,
@@ -153,7 +156,7 @@ fn has_read(told: &LifeRecord<Reply>, place: u64, reply: Reply) -> bool {
     }
 }
 
-/// Whether a client was stopped before its first step, alone.
+/// Whether just one client of a life was stopped, in its first command before its first step, and the command is not kept.
 fn has_stop(told: &LifeRecord<Reply>) -> bool {
     match told.stops.as_slice() {
         [line] => line.command == 1 && line.steps == 0 && !line.kept,
@@ -161,6 +164,7 @@ fn has_stop(told: &LifeRecord<Reply>) -> bool {
     }
 }
 
+/// Whether the records of three lives have the replies, the reads and the stop that are wanted, and the last one the 511 counters.
 fn are_told(records: &[LifeRecord<Reply>]) -> bool {
     let [first, stopped, last] = records else {
         return false;
@@ -175,7 +179,7 @@ fn are_told(records: &[LifeRecord<Reply>]) -> bool {
         && last.items == 511
 }
 
-/// Whether three lives of counters are told as wanted.
+/// Whether the records of three lives of counters are as wanted.
 fn lives_are_told<R: Threads + Wait + Sync>(rt: &R, alloc: Global) -> Result<bool, AllocError> {
     let counters = Counters::of(64, 1000);
     let script = script(alloc)?;

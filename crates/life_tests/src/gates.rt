@@ -15,13 +15,15 @@ use std::sync::atomic::{AtomicBool, AtomicU64, Ordering};
 use std::test::Fail;
 use std::thread::{Threads, yield_now};
 
-// The turns that a command is held at most.
+// The most turns for which a command is held.
 const TURNS: u64 = 1_000_000_000;
 
-// A gate that holds client 0's first command until client 1's first one was answered; and the turns that it had left then, from 1 on.
+// A gate that holds client 0's first command until client 1's first command was answered.
 #[derive(Drop)]
 struct Held {
+    // whether client 1's first command was answered
     answered: AtomicBool,
+    // how many of the `TURNS` were left then, at least 1; 0 where client 0 waited in vain
     left: AtomicU64,
 }
 
@@ -44,12 +46,14 @@ impl Gate for Held {
     }
 }
 
+// A script of two clients, each of which adds 1 to n.
 const TWO: &str = "lines 64\nlife 2 power 0\n0 add n 1\n1 add n 1\n";
 
+// The report of `TWO` where the addition of client 1 comes first.
 const SECOND_FIRST: &str =
     "life 0 clients 2 from 0\n0 1.1 add n 1 = sum 1\n1 0.1 add n 1 = sum 2\npower 0 kept 2 of 2 documents 1\n";
 
-// Whether the lives of a script have this report.
+// Whether the lives of a script, run past a gate, have the report `want`.
 #[tactic(auto, using(life_records::proofs::Naming::names_of_lives))]
 fn is_reported<R: Threads + Wait + Sync>(
     rt: &R,
@@ -64,7 +68,7 @@ fn is_reported<R: Threads + Wait + Sync>(
     Ok(report(alloc, script, lived.records.as_slice())?.as_slice() == want)
 }
 
-// The same of a text that is a script.
+// Whether a text is a script whose lives, run past a gate, have the report `want`.
 fn has_report<R: Threads + Wait + Sync>(
     rt: &R,
     alloc: Global,
@@ -89,7 +93,8 @@ fn a_gate_holds_a_command(rt: HostRuntime) -> Result<(), Fail> {
     Ok(())
 }
 
-// A gate that holds the others' first commands until client 1 is at the end of its own. With it which of them give up does not depend on when threads run.
+// A gate that holds the first commands of the other clients until client 1 has ended a command. With it, which clients give up does not depend on when
+// threads run.
 #[derive(Drop)]
 struct AfterOne {
     ended: AtomicBool,
@@ -115,9 +120,10 @@ impl Gate for AfterOne {
     }
 }
 
-// The updates of clients 0 and 2: their numbers from 0 on, which the one puts at b, and the other at c.
+// How many updates clients 0 and 2 make each.
 const UPDATES: u64 = 48;
 
+// The updates of clients 0 and 2: client 0 puts the numbers from 0 on under the key b, and client 2 under the key c.
 const OTHERS: &str =
     "0 put b 0\n2 put c 0\n0 put b 1\n2 put c 1\n0 put b 2\n2 put c 2\n0 put b 3\n2 put c 3\n0 put b 4\n2 put c 4\n\
      0 put b 5\n2 put c 5\n0 put b 6\n2 put c 6\n0 put b 7\n2 put c 7\n0 put b 8\n2 put c 8\n0 put b 9\n2 put c 9\n\
@@ -142,7 +148,7 @@ const NONE: Counts = Counts {
     answered: [0; 3],
 };
 
-// Whether a client's put is answered so.
+// Whether the reply is that of a client's put: the key is new to the first, and the others replace its document.
 fn is_put(reply: &Reply, is_first: bool) -> bool {
     match reply {
         Reply::New => is_first,
@@ -151,7 +157,8 @@ fn is_put(reply: &Reply, is_first: bool) -> bool {
     }
 }
 
-// Counts the entry at a ticket. False where it has another, is not its client's next command, or stands behind one that is not answered.
+// Counts an entry of the history. Returns false where the entry has another ticket, is not its client's next command, has another reply than that of the
+// put, or stands behind an entry of its client that is not answered.
 fn is_counted(counts: &mut Counts, ticket: u64, line: &JournalLine) -> bool {
     let client = line.client as usize;
     if client >= 3 || line.ticket != ticket {
@@ -171,7 +178,7 @@ fn is_counted(counts: &mut Counts, ticket: u64, line: &JournalLine) -> bool {
     }
 }
 
-// The entries of a history from ticket 0 on, where each is right.
+// The entries of a history from ticket 0 on, counted for each client. `None` where one of them is not right.
 fn counted(journal: &[JournalLine]) -> Option<Counts> {
     let mut counts = NONE;
     for (ticket, line) in journal.iter().enumerate() {
@@ -206,7 +213,7 @@ fn is_kept(told: &LifeRecord) -> bool {
     told.kept <= told.journal.len() as u64 && told.items == documents
 }
 
-// Whether client 1 is answered, or alone was stopped after `steps` steps, and its line says kept where its entry is kept.
+// Whether no client was stopped and client 1 is answered, or client 1 alone was stopped, after `steps` steps, and its line says whether its entry is kept.
 fn is_stopped_or_answered(told: &LifeRecord, counts: &Counts, steps: u64) -> bool {
     match told.stops.as_slice() {
         [] => counts.answered[1] == 1,
@@ -221,7 +228,7 @@ fn is_stopped_or_answered(told: &LifeRecord, counts: &Counts, steps: u64) -> boo
     }
 }
 
-// How many entries of a client are answered from a ticket on, and whether one has that ticket.
+// How many entries of a client at or above a ticket are answered, and whether one of them has that ticket.
 fn answered_from(told: &LifeRecord, client: u32, ticket: u64) -> (u64, bool) {
     let mut count = 0u64;
     let mut is_there = false;
@@ -292,7 +299,7 @@ fn is_first(told: &LifeRecord, steps: u64) -> bool {
         && has_ended(told, &counts, 2)
 }
 
-// Whether a reply is the last number put at a key, or tells that there is none.
+// Whether a reply has the last number put under a key, or says that there is no document where none was put.
 fn is_last(reply: &Reply, last: Option<u64>) -> bool {
     match reply {
         Reply::Absent => last.is_none(),
@@ -301,7 +308,7 @@ fn is_last(reply: &Reply, last: Option<u64>) -> bool {
     }
 }
 
-// Whether the second life reads what the first left.
+// Whether the second life reads the documents that the first life left.
 fn is_second(told: &LifeRecord, first: &LifeRecord) -> bool {
     let [a, b, c] = told.reads.as_slice() else {
         return false;
@@ -327,7 +334,8 @@ fn is_second(told: &LifeRecord, first: &LifeRecord) -> bool {
         && is_last(&c.reply, kept_of(first, 2).checked_sub(1))
 }
 
-// How many clients ran out of free cells, where the records are of legal lives, and the others made all updates where none did.
+// How many clients ran out of free cells in two lives. `None` where a life is not legal, or where clients 0 and 2 have all updates kept though one ran out,
+// or lack one though none ran out.
 fn gave_up(records: &[LifeRecord], steps: u64) -> Option<usize> {
     let [first, second] = records else {
         return None;
@@ -341,7 +349,7 @@ fn gave_up(records: &[LifeRecord], steps: u64) -> Option<usize> {
     }
 }
 
-// The script's lives, in which client 1 is stopped after `steps` steps and the others wait for that.
+// How many clients ran out of free cells in the lives of a script in which client 1 is stopped after `steps` steps and the others wait for that.
 fn tried_script<R: Threads + Wait + Sync>(
     rt: &R,
     alloc: Global,
@@ -357,7 +365,8 @@ fn tried_script<R: Threads + Wait + Sync>(
     Ok(gave_up(lived.records.as_slice(), steps))
 }
 
-// The same of the text: client 1 makes one update, and the next life reads what was left.
+// How many clients ran out of free cells in the lives of the script's text: client 1 makes one update and is stopped after `steps` steps, and the next
+// life reads what was left.
 fn tried<R: Threads + Wait + Sync>(
     rt: &R,
     alloc: Global,
@@ -372,7 +381,7 @@ fn tried<R: Threads + Wait + Sync>(
     }
 }
 
-// Whether the lives are legal at each of these numbers of steps, and at some of them another client gave up.
+// Whether the lives are legal at each of the numbers of steps after which client 1 is stopped, and at some of them another client gave up.
 fn all_tried<R: Threads + Wait + Sync>(rt: &R, alloc: Global) -> Result<bool, AllocError> {
     let mut all = 0usize;
     // Alone client 1 is answered within fewer steps than 1,200.

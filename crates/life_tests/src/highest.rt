@@ -1,4 +1,4 @@
-//! The operations of the object to copy on words, and its images.
+//! The highest number, the object that `object_to_copy` has for users to copy: its operations on words, and its images.
 
 use crate::holds::holds;
 use crate::objects::{Answered, opening, stepped, told};
@@ -7,14 +7,15 @@ use object_to_copy::{Highest, Op, Reply};
 use std::alloc::{AllocError, Global};
 use std::test::Fail;
 
-// The number, in 64 lines.
+// The object in 64 lines.
 fn highest() -> Highest {
     Highest::of(64)
 }
 
-// An operation, what it is answered, and the number then.
+// An operation, its reply, and the highest number after it.
 type Case = (Op, Reply, u64);
 
+// Operations one after another from the opening image on, which has the number 0. A raise to a number that is not above the highest leaves it.
 const CASES: [Case; 8] = [
     (Op::Read, Reply::Value(0), 0),
     (Op::Raise { to: 0 }, Reply::Value(0), 0),
@@ -26,7 +27,7 @@ const CASES: [Case; 8] = [
     (Op::Read, Reply::Value(u64::MAX), u64::MAX),
 ];
 
-// Whether words have the number, and behind it what `format` made.
+// Whether words are 64 lines with the version 1, the number, and zeros behind it as `format` made them.
 fn have(words: &[u64], number: u64) -> bool {
     words.len() == 512
         && words[0] == 1
@@ -34,12 +35,12 @@ fn have(words: &[u64], number: u64) -> bool {
         && words[2..].iter().all(|word| *word == 0)
 }
 
-// Whether this is the answer, and the number is this then.
+// Whether the reply is `reply`, and the words that were left have `number`.
 fn is_answer(answered: &Answered, reply: Reply, number: u64) -> bool {
     have(&answered.words, number) && Reply::of(&answered.reply) == reply
 }
 
-// Whether `query` answers an operation that only reads so, and leaves the words, which have the number already; it answers no other.
+// Whether `query` gives a read the case's reply and leaves the words, which have the case's number already, and gives no reply to any other operation.
 fn is_told(alloc: Global, words: Vec<u64>, case: &Case) -> Result<bool, AllocError> {
     let (op, reply, number) = case;
     match told(alloc, &highest(), words, &op.words())? {
@@ -48,7 +49,7 @@ fn is_told(alloc: Global, words: Vec<u64>, case: &Case) -> Result<bool, AllocErr
     }
 }
 
-// The first case that comes out otherwise, from the opening image on.
+// The first of the cases, done one after another from the opening image on, that has another reply or leaves another number.
 fn first_other_case(alloc: Global, cases: &[Case]) -> Result<Option<usize>, AllocError> {
     let object = highest();
     let Some(mut words) = opening(alloc, &object)? else {
@@ -67,17 +68,19 @@ fn first_other_case(alloc: Global, cases: &[Case]) -> Result<Option<usize>, Allo
     Ok(None)
 }
 
-// How many words, the version, and whether they are an image.
+// The number of words, the version in the first of them, and whether they are an image.
 const IMAGES: [(usize, u64, bool); 6] = [
     (512, 1, true),
+    // other versions
     (512, 0, false),
     (512, 2, false),
+    // other than 64 lines of 8 words
     (511, 1, false),
     (520, 1, false),
     (0, 1, false),
 ];
 
-// The first row of words that are told otherwise; behind the version they may be any.
+// The first row for which `check` returns another answer. Behind the version each word is the greatest number, since the words there may be any.
 fn first_other_image(
     alloc: Global,
     rows: &[(usize, u64, bool)],

@@ -6,14 +6,14 @@ ghost use Rattle.cx_base.specs.Memory.{Always, Known};
 use cx_base::{Halt, Object, VecMemory};
 use std::alloc::{AllocError, Global};
 
-/// What an operation left of words, and what it was answered.
+/// The words that an operation left, and its reply.
 #[derive(Drop)]
 pub(crate) struct Answered {
     pub(crate) words: Vec<u64>,
     pub(crate) reply: [u64; 144],
 }
 
-/// The opening image, made of 512 words that say nothing.
+/// The opening image of an object of 64 lines, made over 512 words that are all the greatest number. `None` where the object has other lines, or halts.
 pub(crate) fn opening<O: Object>(
     alloc: Global,
     object: &O,
@@ -28,7 +28,7 @@ pub(crate) fn opening<O: Object>(
     }
 }
 
-/// Words as a memory with this many accesses allowed, where they are 64 lines that the object takes for an image.
+/// A memory of `words` with `left` accesses allowed. `None` where the words are not 64 lines, or the object does not take them for an image.
 fn image_of<O: Object>(
     alloc: Global,
     object: &O,
@@ -49,7 +49,8 @@ fn image_of<O: Object>(
     Ok(Some(memory))
 }
 
-/// What an operation leaves of words and its reply, with this many accesses allowed; `None` where they are no image, or it halts.
+/// The words that an operation on `words` leaves, and its reply, where `left` accesses are allowed. `None` where `words` are no image, or the operation
+/// halts.
 pub(crate) fn stepped<O: Object>(
     alloc: Global,
     object: &O,
@@ -69,7 +70,8 @@ pub(crate) fn stepped<O: Object>(
     }
 }
 
-/// The same of an operation that only reads, by `query`; `None` of any other too.
+/// The words that `query` leaves for an operation on `words`, and its reply. `None` where `words` are no image, the operation does not only read, or it
+/// halts.
 pub(crate) fn told<O: Object>(
     alloc: Global,
     object: &O,

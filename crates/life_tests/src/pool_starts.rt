@@ -2,7 +2,7 @@
 
 ghost use Rattle.std.specs.Prelude.{IfOk};
 ghost use Rattle.client_pool.specs.Pools.{AreNewCallers};
-ghost use Rattle.life_tests.specs.Tests.{AreAll, Counts};
+ghost use Rattle.life_tests.specs.Tests.{AreCounterClients, IsCounterPool};
 
 use bounded_counters::{Counters, operations_are_read, read_words};
 use client_pool::{Client, Pool};
@@ -37,8 +37,8 @@ pub(crate) fn opened<R: Wait>(
     clients: u32,
     limit: u64,
 ) -> Result<(Pool<Counters>, Vec<Client>), AllocError>
-    ensures counts { IfOk result (λ r. Counts r.0) }
-    ensures clients { IfOk result (λ r. AreAll r.0 r.1.items) }
+    ensures counts { IfOk result (λ r. IsCounterPool r.0) }
+    ensures clients { IfOk result (λ r. AreCounterClients r.0 r.1.items) }
 {
     if clients < 1 || clients > 64 {
         return Err(AllocError);

@@ -6,11 +6,15 @@ use fifo_object::Fifo;
 use std::alloc::{AllocError, Global};
 use std::test::Fail;
 
-/// What is asked: a kind, and the byte of a text of one; and of what is answered the kind, word 1 and the first word of the text.
+/// A step: the kind of the operation, the only byte of its text, and the answer. Kinds of operations: 1 push, 2 pop, 3 peek, 4 the number of texts; 7 is
+/// none.
 type Step = (u64, u64, Told);
 
+/// An answer: the kind of the reply, its word 1, which is the length of a text or a number, and the first word of the text. Kinds of replies: 1 pushed,
+/// 2 full, 3 a text, 4 empty, 5 the number of texts; 0 where the words were no operation.
 type Told = (u64, u64, u64);
 
+/// A queue in 2, 3 or 5 lines. The first line is its header, and each other is a place for one text.
 fn queue_in(lines: u64) -> Fifo {
     match lines {
         2 => Fifo::of(2),
@@ -19,6 +23,7 @@ fn queue_in(lines: u64) -> Fifo {
     }
 }
 
+/// The words of an operation of a kind; a push has a text of this one byte.
 fn asked(kind: u64, byte: u64) -> [u64; 144] {
     let mut words = [0; 144];
     words[0] = kind;
@@ -29,7 +34,7 @@ fn asked(kind: u64, byte: u64) -> [u64; 144] {
     words
 }
 
-/// The words after a step, and the reply; nothing where the words were no image.
+/// The words after an operation on `words`, and its answer. `None` where `words` are no image, or an access is refused.
 fn stepped(
     alloc: Global,
     fifo: &Fifo,
@@ -46,7 +51,7 @@ fn stepped(
     }
 }
 
-/// The image that the queue opens with, made over other words; nothing where an access is refused.
+/// The image that a queue opens with, made over words that are all 9. `None` where an access is refused.
 fn opened(alloc: Global, fifo: &Fifo) -> Result<Option<Vec<u64>>, AllocError> {
     let mut words = Vec::new(alloc);
     for _ in 0..8 * fifo.lines() {
@@ -62,13 +67,15 @@ fn opened(alloc: Global, fifo: &Fifo) -> Result<Option<Vec<u64>>, AllocError> {
     }
 }
 
-/// From a head at a place on: the queue is filled, is full, and is emptied.
+/// The steps by which the head of a queue of `places` places is moved to `head`, and then the queue is filled, refuses a further text, and is emptied.
 fn steps(alloc: Global, places: u8, head: u8) -> Result<Vec<Step>, AllocError> {
     let mut steps: Vec<Step> = Vec::new(alloc);
+    // a text that is pushed and popped moves the head by one place
     for _ in 0..head {
         steps.push((1, 0x7A, (1, 0, 0)))?;
         steps.push((2, 0, (3, 1, 0x7A)))?;
     }
+    // the queue is empty
     steps.push((2, 0, (4, 0, 0)))?;
     steps.push((3, 0, (4, 0, 0)))?;
     steps.push((4, 0, (5, 0, 0)))?;
@@ -77,6 +84,7 @@ fn steps(alloc: Global, places: u8, head: u8) -> Result<Vec<Step>, AllocError> {
         steps.push((3, 0, (3, 1, 0x21)))?;
         steps.push((4, 0, (5, i + 1, 0)))?;
     }
+    // the queue is full, and words of no operation change nothing
     steps.push((1, 0x7E, (2, 0, 0)))?;
     steps.push((7, 0, (0, 0, 0)))?;
     for i in 0..places as u64 {
@@ -86,6 +94,7 @@ fn steps(alloc: Global, places: u8, head: u8) -> Result<Vec<Step>, AllocError> {
     Ok(steps)
 }
 
+/// The first step that a new queue of `lines` lines does not answer as its row says.
 fn first_wrong_step(
     alloc: Global,
     lines: u64,
@@ -107,7 +116,7 @@ fn first_wrong_step(
     Ok(None)
 }
 
-/// The first lines, and head, of a queue that answers otherwise.
+/// The number of lines and the head of the first queue that does not answer each of its `steps` as wanted.
 fn first_wrong_queue(alloc: Global) -> Result<Option<(u8, u8)>, AllocError> {
     for lines in [2u8, 3, 5] {
         for head in 0..lines - 1 {
@@ -120,36 +129,46 @@ fn first_wrong_queue(alloc: Global) -> Result<Option<(u8, u8)>, AllocError> {
     Ok(None)
 }
 
-/// The words of three lines with one text, at the second place. The first has words of no text.
+/// An image of three lines with one text, `ab`, at the second place. The header is the version 16, the head 1 and the number of texts 1. The words at the
+/// first place are those of no text.
 const IMAGE: [u64; 24] = [
     16, 1, 1, 0, 0, 0, 0, 0, 99, 99, 99, 99, 99, 99, 99, 99, 2, 0x6261, 0, 0, 0, 0, 0, 0,
 ];
 
-/// One word of that image told otherwise, and whether it is one then.
+/// A word of `IMAGE`, its new value, and whether the words are an image with that value.
 const IMAGES: [(usize, u64, bool); 21] = [
+    // the version is 16
     (0, 16, true),
     (0, 1, false),
     (0, 17, false),
+    // the head is a place, and a text stands there: the places are 0 and 1
     (1, 0, false),
     (1, 2, false),
     (1, u64::MAX, false),
+    // without a text the places are not looked at; with two, no text stands at the first place; there are two places
     (2, 0, true),
     (2, 2, false),
     (2, 3, false),
     (2, u64::MAX, false),
+    // the rest of the header is 0
     (3, 1, false),
     (4, 1, false),
     (5, 1, false),
     (6, 1, false),
     (7, 1, false),
+    // the place without a text is not looked at
     (8, 1, true),
+    // the length of the text is 1 to 56, and no byte stands behind the text
     (16, 0, false),
     (16, 57, false),
     (16, 1, false),
+    // the second byte is a space, which is not visible
     (17, 0x2061, false),
+    // the last word behind the text is not 0
     (23, 1, false),
 ];
 
+/// The first row for which `check` returns another answer.
 fn first_wrong_image(
     alloc: Global,
     rows: &[(usize, u64, bool)],

@@ -28,7 +28,7 @@ fn started(alloc: Global) -> Result<(Service<Fifo>, Caller), AllocError>
     }
 }
 
-/// The item of a list of one.
+/// The only caller of a list. `None` where the list has none, or more than one.
 fn one(mut callers: Vec<Caller>) -> Option<Caller>
     ensures { IfSome result (λ caller. callers.items ≡ caller ∷ []) }
 {
@@ -40,7 +40,7 @@ fn one(mut callers: Vec<Caller>) -> Option<Caller>
     }
 }
 
-/// One call, and what the queue answers; nothing where the call was not answered.
+/// A caller asks for an operation: the caller, and the reply of the queue. `None` where the call is not answered.
 fn asked<R: Wait>(
     rt: &R,
     alloc: Global,
@@ -63,7 +63,8 @@ fn asked<R: Wait>(
     }
 }
 
-/// The operation of a row, its kind and the byte of a text of one; one without a text where the row has none.
+/// The operation that has the kind and, where this is a push, the text of one byte that stand in a row. Words that are no operation become a request for
+/// the number of texts.
 fn op_of(alloc: Global, row: &(u64, u64)) -> Result<FifoOp, AllocError>
     ensures { IfOk result IsOp }
 {
@@ -81,7 +82,7 @@ fn op_of(alloc: Global, row: &(u64, u64)) -> Result<FifoOp, AllocError>
     }
 }
 
-/// Whether a reply is of a kind, with the byte of a text of one, or with a number.
+/// Whether a reply is of a kind. A text has the one byte `value`, and the number of texts is `value`.
 fn is_reply(reply: &FifoReply, kind: u64, value: u64) -> bool {
     match reply {
         FifoReply::Pushed => kind == 1,
@@ -95,16 +96,18 @@ fn is_reply(reply: &FifoReply, kind: u64, value: u64) -> bool {
     }
 }
 
-/// Each operation, and the kind and the value of its reply.
+/// The kind of an operation and the byte of its text, and the kind and the value of its reply.
 const CALLS: [((u64, u64), (u64, u64)); 5] = [
+    // the text x is pushed, counted, looked at and popped
     ((1, 0x78), (1, 0)),
     ((4, 0), (5, 1)),
     ((3, 0), (3, 0x78)),
     ((2, 0), (3, 0x78)),
+    // a pop of the empty queue
     ((2, 0), (4, 0)),
 ];
 
-/// The first call that is not answered so, if any.
+/// The first call of `CALLS` that is not answered, or has another reply than its row says.
 fn first_wrong<R: Wait>(
     rt: &R,
     alloc: Global,
@@ -127,6 +130,7 @@ fn first_wrong<R: Wait>(
     Ok(None)
 }
 
+/// Whether a service of one caller over the empty queue gives each call of `CALLS` the reply of its row.
 fn calls_are_answered<R: Wait>(rt: &R, alloc: Global) -> Result<bool, AllocError> {
     let (service, caller) = started(alloc)?;
     Ok(first_wrong(rt, alloc, &service, caller)?.is_none())

@@ -2,7 +2,7 @@
 
 ghost use Rattle.std.specs.Prelude.{◌≡◌, ◌<◌, ℕ, IfOk, slice_index_or, true, vec_len};
 ghost use Rattle.client_pool.specs.Lending.{is_live};
-ghost use Rattle.life_tests.specs.Tests.{AreAll, Counts, IsBack, IsOf};
+ghost use Rattle.life_tests.specs.Tests.{AreCounterClients, IsClientBack, IsCounterClient, IsCounterPool};
 
 use crate::holds::holds;
 use crate::pool_starts::opened;
@@ -16,10 +16,10 @@ use std::sync::atomic::{AtomicUsize, Ordering};
 use std::test::Fail;
 use std::thread::{self, Threads, map_vec};
 
-/// What a request is told.
+/// The answer to a request.
 #[derive(Clone, Copy)]
 enum Told {
-    /// What the counter has, once the amount was added: durable.
+    /// The amount was added, and is durable: what the counter has then.
     Sum(u64),
     /// Nothing was done: the same request may be made again.
     Busy,
@@ -29,9 +29,9 @@ enum Told {
 
 /// Answers a request to add.
 fn answer<R: Wait>(rt: &R, pool: &Pool<Counters>, client: &mut Client, amount: u64) -> Told
-    requires pool { Counts pool.now }
-    requires client { IsOf pool.now client.old × (is_live client.old.lent.kept ≡ true) }
-    ensures { IsBack pool.now client.old client.new }
+    requires pool { IsCounterPool pool.now }
+    requires client { IsCounterClient pool.now client.old × (is_live client.old.lent.kept ≡ true) }
+    ensures { IsClientBack pool.now client.old client.new }
 {
     let mut reply = [0; OP_WORDS];
     let pooled = pool.update(rt, client, &add_words(0, amount), &mut reply);
@@ -44,11 +44,11 @@ fn answer<R: Wait>(rt: &R, pool: &Pool<Counters>, client: &mut Client, amount: u
     }
 }
 
-/// Answers the requests of a connection, each of which adds 1. It ends where none is answered any more: whether all are.
+/// Answers the requests of a connection, each of which adds 1, until all are answered or none is answered any more. Returns whether all are answered.
 fn serve<R: Wait>(rt: &R, pool: &Pool<Counters>, client: &mut Client, requests: u64) -> bool
-    requires pool { Counts pool.now }
-    requires client { IsOf pool.now client.old }
-    ensures { IsBack pool.now client.old client.new }
+    requires pool { IsCounterPool pool.now }
+    requires client { IsCounterClient pool.now client.old }
+    ensures { IsClientBack pool.now client.old client.new }
 {
     let mut answered = 0;
     for _ in rt.forever() {
@@ -64,7 +64,7 @@ fn serve<R: Wait>(rt: &R, pool: &Pool<Counters>, client: &mut Client, requests: 
     answered >= requests
 }
 
-/// Takes one connection after another, until there is none or no request is answered any more.
+/// Takes one connection after another and answers its requests, until no connection is left or no request is answered any more. The client is returned.
 fn work<R: Wait>(
     rt: &R,
     pool: &Pool<Counters>,
@@ -72,9 +72,9 @@ fn work<R: Wait>(
     connections: &[u64],
     accepted: &AtomicUsize,
 ) -> Client
-    requires pool { Counts pool.now }
-    requires client { IsOf pool.now client }
-    ensures { IsBack pool.now client result }
+    requires pool { IsCounterPool pool.now }
+    requires client { IsCounterClient pool.now client }
+    ensures { IsClientBack pool.now client result }
 {
     let mut client = client;
     for _ in rt.forever() {
@@ -88,45 +88,46 @@ fn work<R: Wait>(
     client
 }
 
-/// Each client does so on a thread of its own.
+/// The clients take connections and answer their requests, each client on a thread of its own. The clients are returned.
 fn on_threads<R: Wait + Threads + Sync>(
     rt: &R,
     pool: &Pool<Counters>,
     clients: Vec<Client>,
     connections: &[u64],
 ) -> Result<Vec<Client>, AllocError>
-    requires pool { Counts pool.now }
-    requires clients { AreAll pool.now clients.items }
+    requires pool { IsCounterPool pool.now }
+    requires clients { AreCounterClients pool.now clients.items }
     ensures long { IfOk result (λ v. vec_len v ≡ vec_len clients) }
-    ensures each { IfOk result (λ v. (i : ℕ) (d : _) (e : _) → i < vec_len clients → IsBack pool.now (slice_index_or clients.items i d) (slice_index_or v.items i e)) }
+    ensures each { IfOk result (λ v. (i : ℕ) (d : _) (e : _) → i < vec_len clients → IsClientBack pool.now (slice_index_or clients.items i d) (slice_index_or v.items i e)) }
 {
     let accepted = AtomicUsize::new(0);
     map_vec(
         rt,
         clients,
         &|client: Client| -> Client
-            requires { Counts pool.now × IsOf pool.now client }
-            ensures { IsBack pool.entry.now client result }
+            requires { IsCounterPool pool.now × IsCounterClient pool.now client }
+            ensures { IsClientBack pool.entry.now client result }
         { work(rt, pool, client, connections, &accepted) },
     )
 }
 
-/// All the clients of a pool do so.
+/// All the clients of a pool take connections and answer their requests, and all of them are returned.
 fn all_work<R: Wait + Threads + Sync>(
     rt: &R,
     pool: &Pool<Counters>,
     clients: Vec<Client>,
     connections: &[u64],
 ) -> Result<Vec<Client>, AllocError>
-    requires pool { Counts pool.now }
-    requires clients { AreAll pool.now clients.items }
-    ensures { IfOk result (λ v. AreAll pool.now v.items) }
+    requires pool { IsCounterPool pool.now }
+    requires clients { AreCounterClients pool.now clients.items }
+    ensures { IfOk result (λ v. AreCounterClients pool.now v.items) }
 {
     let worked = on_threads(rt, pool, clients, connections)?;
     Ok(worked)
 }
 
-/// What the counter has once a server has answered such connections, and the answers of its clients.
+/// What the counter has once a server of two callers and three clients has answered the connections, and how many answers its clients have. A connection
+/// is its number of requests.
 fn served<R: Wait + Threads + Sync>(
     rt: &R,
     alloc: Global,

@@ -46,7 +46,8 @@ fn seen(answered: &Answered, before: u64, is_read: bool) -> Option<(u64, bool)> 
     if rises { Some((sum, is_entry)) } else { None }
 }
 
-/// What a client was answered in all, where each addition is in what it sees later. A client that is live has all its answers, and no other has.
+/// What a client was answered in all. `None` where an answer does not have the additions before it, where a client of a caller without a limit of steps is
+/// not live or lacks an answer, and where a client of a caller with one is live or has all its answers.
 fn told(client: &Client, row: &Row) -> Option<Sum> {
     let answers = client.answers();
     let is_whole = answers.len() as u64 == row.additions.wrapping_add(1);
@@ -71,7 +72,7 @@ fn told(client: &Client, row: &Row) -> Option<Sum> {
     Some(sum)
 }
 
-/// The same of all clients.
+/// What all clients of a pool were answered in all, where each client's additions are in what it sees later. `None` where one client's are not.
 fn all_told(clients: &[Client], row: &Row) -> Option<Sum> {
     let mut all = Sum {
         added: 0,
@@ -104,7 +105,8 @@ pub(crate) fn last(remains: &Remains) -> Option<(u64, u64)> {
     ))
 }
 
-/// Whether the entries are those that were answered, but for at most one of a stopped caller, and the counter has the additions among them.
+/// Whether the published region has all entries that were answered, and of a caller that was stopped at most one more, and counter 0 has the additions among
+/// them.
 fn is_left(remains: &Remains, sum: Sum, row: &Row) -> bool {
     let Some((place, count)) = last(remains) else {
         return false;
@@ -119,7 +121,7 @@ fn is_left(remains: &Remains, sum: Sum, row: &Row) -> bool {
         }
 }
 
-/// Whether the clients of a row are answered so, and their pool is closed.
+/// Whether the clients of a row are answered as they are to be, and their pool, once it is closed, has left their entries.
 fn is_right<R: Wait + Threads + Sync>(
     rt: &R,
     alloc: Global,
@@ -137,7 +139,7 @@ fn is_right<R: Wait + Threads + Sync>(
     }
 }
 
-/// The first row where it is not so.
+/// The first row whose clients are not answered as they are to be, or whose pool leaves other entries.
 fn first_wrong<R: Wait + Threads + Sync>(
     rt: &R,
     alloc: Global,
@@ -173,7 +175,7 @@ const ROWS: [Row; 4] = [
         additions: 10,
         threads: true,
     },
-    // its caller is stopped
+    // the limit of steps stops the only caller before its client has made all additions
     Row {
         callers: 1,
         clients: 1,

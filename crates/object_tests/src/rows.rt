@@ -1,15 +1,15 @@
-//! What is run.
+//! The fields, values and programs that `runs` makes programs of.
 
-/// Registers of the word that is tried: the destination in the lower half of a byte, the source in the upper one.
+/// The register bytes that are tried in an instruction: the destination in the lower half of a byte, the source in the upper half.
 pub const REGISTERS: [u64; 5] = [0x21, 0x01, 0x11, 0x2a, 0xb1];
 
-/// Its offsets.
+/// The offsets that are tried in an instruction. The last one is -8.
 pub const OFFSETS: [u64; 7] = [0, 1, 2, 8, 16, 32, 0xfff8];
 
-/// Its numbers.
+/// The numbers that are tried in an instruction. The last one is -1.
 pub const NUMBERS: [u64; 7] = [0, 1, 3, 16, 32, 64, 0xffff_ffff];
 
-/// What registers 1 and 2 hold: edges of numbers, and addresses.
+/// What registers 1 and 2 have when an instruction is tried: edges of numbers, and addresses.
 pub const PAIRS: [(u64, u64); 24] = [
     (0x0000_0000_0000_0000, 0x0000_0000_0000_0000),
     (0x0000_0000_0000_0001, 0x0000_0000_0000_0000),
@@ -92,7 +92,7 @@ pub const SAMPLE: [u64; 51] = [
     0x0000_000b_0000_0007,
 ];
 
-/// Programs at the edges of what may be done.
+/// Programs at the edges of what a program may do, each of 8 words. The word 0x95 is an exit.
 pub const FAULTS: [[u64; 8]; 46] = [
     // an endless loop
     [

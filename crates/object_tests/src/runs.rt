@@ -1,4 +1,4 @@
-//! Words that are made a program and run, and a digest of what came of it.
+//! Words are made a program, the program is run, and a digest is made of all replies and images.
 
 ghost use Rattle.std.specs.Prelude.{◌≡◌, ◌*◌, IfOk, length};
 ghost use Rattle.cx_base.specs.Memory.{Always, Known};
@@ -9,10 +9,12 @@ use program_code::{FaultKind, Program, ProgramFault};
 use program_object::ProgramObject;
 use std::alloc::{AllocError, Global};
 
-/// How many words were no program, and all that was answered.
+/// The result of a number of runs.
 #[derive(Clone, Copy)]
 pub struct Tally {
+    /// How many times the words were no program.
     pub refused: u64,
+    /// A digest of all that was answered.
     pub digest: u64,
 }
 
@@ -24,19 +26,20 @@ impl Tally {
         }
     }
 
-    /// One word more.
+    /// Adds a word to the digest.
     fn add(&mut self, word: u64) {
         let product = (self.digest ^ word).wrapping_mul(0x9E37_79B9_7F4A_7C15);
         self.digest = product ^ (product >> 29);
     }
 }
 
-/// A word of these fields.
+/// The word of an instruction with these fields. Of each field the lowest bits are taken that have room.
 fn word_of(opcode: u64, registers: u64, offset: u64, number: u64) -> u64 {
     opcode % 256 | (registers % 256) << 8 | (offset % 65_536) << 16 | (number % (1 << 32)) << 32
 }
 
-/// Two numbers in registers 1 and 2, one word, and then register 1 is the value; from two words on behind it 7 is.
+/// A program of 9 words round the instruction that is tried: the numbers go into registers 1 and 2, the instruction is run, and the value is register 1.
+/// Where the instruction jumps by two words, the value is 7.
 fn around(word: u64, first: u64, second: u64) -> [u64; 9] {
     [
         word_of(0x18, 0x01, 0, first),
@@ -51,7 +54,7 @@ fn around(word: u64, first: u64, second: u64) -> [u64; 9] {
     ]
 }
 
-/// One opcode, with registers, offsets, numbers and values of all kinds.
+/// Runs one opcode with each of `REGISTERS`, `OFFSETS`, `NUMBERS` and `PAIRS`.
 pub fn of_opcode(alloc: Global, opcode: u64) -> Tally {
     let mut tally = Tally::none();
     for registers in &REGISTERS {
@@ -62,6 +65,7 @@ pub fn of_opcode(alloc: Global, opcode: u64) -> Tally {
     tally
 }
 
+/// Runs the instruction with this opcode, these registers and this offset, with each of `NUMBERS` and `PAIRS`.
 fn of_fields(alloc: Global, opcode: u64, registers: u64, offset: u64, tally: &mut Tally) {
     for number in &NUMBERS {
         let word = word_of(opcode, registers, offset, *number);
@@ -71,7 +75,7 @@ fn of_fields(alloc: Global, opcode: u64, registers: u64, offset: u64, tally: &mu
     }
 }
 
-/// The sample with each bit of one word turned, one after the other.
+/// Runs `SAMPLE` 64 times, each time with another bit of word `at` turned.
 pub fn flipped(alloc: Global, at: usize) -> Tally {
     let mut tally = Tally::none();
     if at < SAMPLE.len() {
@@ -84,7 +88,7 @@ pub fn flipped(alloc: Global, at: usize) -> Tally {
     tally
 }
 
-/// A program that faults.
+/// Runs the program in row `row` of `FAULTS`.
 pub fn faults(alloc: Global, row: usize) -> Tally {
     let mut tally = Tally::none();
     if row < FAULTS.len() {
@@ -93,7 +97,7 @@ pub fn faults(alloc: Global, row: usize) -> Tally {
     tally
 }
 
-/// A program that takes over an image of another one.
+/// Has the program in row `row` of `UPGRADES` take over an image of another program.
 pub fn upgraded(alloc: Global, row: usize) -> Tally {
     let mut tally = Tally::none();
     if row < UPGRADES.len() {
@@ -104,7 +108,8 @@ pub fn upgraded(alloc: Global, row: usize) -> Tally {
     tally
 }
 
-/// What an image of the program with the fingerprint 5 becomes.
+/// Has a program take over an image of the program with the fingerprint 5. The image that is left is added to the digest, and whether it is one of the new
+/// program.
 fn take_over(alloc: Global, words: &[u64], tally: &mut Tally) -> Result<(), AllocError> {
     let Ok(program) = Program::of(alloc, words, 8) else {
         return Err(AllocError);
@@ -127,7 +132,8 @@ fn take_over(alloc: Global, words: &[u64], tally: &mut Tally) -> Result<(), Allo
     Ok(())
 }
 
-/// Makes a program of words and does operations.
+/// Makes a program of words, of which the first `instructions` are instructions, and does operations of these kinds. Words that are no program are counted,
+/// and the fault is added to the digest.
 fn run(alloc: Global, words: &[u64], instructions: usize, operations: &[u64], tally: &mut Tally) {
     match Program::of(alloc, words, instructions) {
         Ok(program) => {
@@ -145,7 +151,7 @@ fn run(alloc: Global, words: &[u64], instructions: usize, operations: &[u64], ta
     }
 }
 
-/// Does operations, one after the other.
+/// Does operations of these kinds one after another, from the opening image on.
 fn run_all<O: Object>(
     alloc: Global,
     object: &O,
@@ -162,7 +168,7 @@ fn run_all<O: Object>(
     Ok(())
 }
 
-/// The opening image, made of words that say nothing.
+/// The opening image of an object of 4 lines, made over words that are all the greatest number.
 fn opening<O: Object>(alloc: Global, object: &O) -> Result<Vec<u64>, AllocError> {
     if object.lines() != 4 {
         return Err(AllocError);
@@ -174,7 +180,7 @@ fn opening<O: Object>(alloc: Global, object: &O) -> Result<Vec<u64>, AllocError>
     }
 }
 
-/// Words as a memory, where the object takes them for an image.
+/// A memory of these words. `Err` also where they are not 4 lines, or the object does not take them for an image.
 fn image_of<O: Object>(alloc: Global, object: &O, words: Vec<u64>) -> Result<VecMemory, AllocError>
     ensures size { IfOk result (λ m. length m.words.items ≡ 8 * O.line_count object.now) }
     ensures lawful { IfOk result (λ m. Always (Known m.words.items) (O.lawful object.now)) }
@@ -190,7 +196,7 @@ fn image_of<O: Object>(alloc: Global, object: &O, words: Vec<u64>) -> Result<Vec
     Ok(memory)
 }
 
-/// What an operation leaves of words.
+/// The words that an operation leaves. The start of its reply and the words behind the first line are added to the digest.
 fn stepped<O: Object>(
     alloc: Global,
     object: &O,
@@ -220,12 +226,14 @@ fn stepped<O: Object>(
     }
 }
 
+/// Adds words to the digest.
 fn tell(words: &[u64], tally: &mut Tally) {
     for word in words {
         tally.add(*word);
     }
 }
 
+/// The number of a kind of fault in the digest.
 fn number_of(kind: FaultKind) -> u64 {
     match kind {
         FaultKind::Length => 1,

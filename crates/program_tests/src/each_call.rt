@@ -9,14 +9,15 @@ use std::sync::Wait;
 use std::test::Fail;
 use std::thread::Threads;
 
-/// The end of which a call fails.
+/// Whether it is the source or the sink of a run of which a call fails.
 #[derive(Clone, Copy)]
 enum Failing {
     Source,
     Sink,
 }
 
-/// Runs of one script: of which end a call fails, from the first such call to the last, counted from 1, and the exit code of each.
+/// Runs of one script, one for each call that fails: whether that is a call of the source or of the sink, its number in the first run and in the last,
+/// counted from 1, and the exit code of each run.
 type Row = (Failing, u64, u64, u8);
 
 const ROWS: [Row; 4] = [
@@ -28,7 +29,7 @@ const ROWS: [Row; 4] = [
     (Failing::Sink, 126, 126, 0),
 ];
 
-/// What is written where this call fails and the exit code is this.
+/// What a run has written that ends with `code`, where call number `call` fails.
 fn written(code: u8, call: u64) -> &'static str {
     match code {
         0 => REPORT,
@@ -37,7 +38,7 @@ fn written(code: u8, call: u64) -> &'static str {
     }
 }
 
-/// Whether a run in which this call fails ends with this exit code, having written what belongs to it.
+/// Whether a run in which one call fails ends with this exit code, and has written what `written` returns for it.
 fn is_right<R: Threads + Wait + Sync + AllocGlobal>(
     rt: &R,
     words: &[String],
@@ -56,7 +57,7 @@ fn is_right<R: Threads + Wait + Sync + AllocGlobal>(
     Ok(got == code && sink.written() == written(code, call).as_bytes())
 }
 
-/// The first row, and its first call, whose run ends otherwise.
+/// The first row with a call whose run ends with another exit code or writes something else, and the number of that call.
 fn first_wrong<R: Threads + Wait + Sync + AllocGlobal>(
     rt: &R,
     rows: &[Row],

@@ -22,10 +22,10 @@ const RUN: &[&str] = &["run"];
 const LOAD: &[&str] = &["load", "0", "2", "3"];
 
 const ROWS: [Row; 7] = [
-    // the second call fails
+    // the second call of the source fails, or that of the sink
     (RUN, (8, 2), (5, 0), 256, (4, 0, "")),
     (RUN, (8, 0), (5, 2), 256, (5, 0, "life ")),
-    // a load meets no fault of its source
+    // a load does not read its source, so it meets no fault of it
     (
         LOAD,
         (8, 1),
@@ -40,21 +40,21 @@ const ROWS: [Row; 7] = [
     (LOAD, (64, 0), (64, 0), 0, (5, 0, "")),
 ];
 
-/// The script over such a source.
+/// A source that gives the script, by calls of at most `end.0` bytes, of which call number `end.1` fails.
 pub(crate) fn source(alloc: Global, end: End) -> Result<VecSource, AllocError> {
     let fails = Vec::from_slice(alloc, &[end.1])?;
     let bytes = Vec::from_slice(alloc, SCRIPT.as_bytes())?;
     Ok(VecSource::new(bytes, end.0.max(1), fails))
 }
 
-/// Such a sink with this room.
+/// A sink with `room` bytes of room, which takes at most `end.0` bytes by a call, and of which call number `end.1` fails.
 pub(crate) fn sink(alloc: Global, end: End, room: usize) -> Result<VecSink, AllocError> {
     let fails = Vec::from_slice(alloc, &[end.1])?;
     let bytes = Vec::with_capacity(alloc, room)?;
     Ok(VecSink::new(bytes, end.0.max(1), fails))
 }
 
-/// Whether a run over such ends has this result.
+/// Whether a run over such a source and such a sink has this result.
 fn comes_to<R: Threads + Wait + Sync + AllocGlobal>(
     rt: &R,
     words: &[String],
@@ -66,7 +66,7 @@ fn comes_to<R: Threads + Wait + Sync + AllocGlobal>(
     code == want.0 && trails == want.1 && sink.written() == want.2.as_bytes()
 }
 
-/// The first run with another result.
+/// The first row whose run has another result.
 fn first_wrong<R: Threads + Wait + Sync + AllocGlobal>(
     rt: &R,
     rows: &[Row],

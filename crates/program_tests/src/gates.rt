@@ -19,7 +19,7 @@ const PASSED: [(u32, u64, bool); 6] = [
     (0, 3, true),
 ];
 
-/// A gate that counts its calls, and tells whether one is another than it is to be.
+/// A gate that counts its calls, and keeps whether one of them differs from its row in `PASSED`.
 #[derive(Drop)]
 struct ComparingGate {
     calls: AtomicUsize,
@@ -55,7 +55,7 @@ pub(crate) fn written_past<R: Threads + Wait + Sync + AllocGlobal, G: Gate + Syn
     Ok(if code == 0 { Some(sink) } else { None })
 }
 
-/// Whether a run of the script past a gate ends by these words with status 0, having written this.
+/// Whether a run of the script past a gate by these words ends with status 0 and has written `text`.
 fn writes<R: Threads + Wait + Sync + AllocGlobal, G: Gate + Sync>(
     rt: &R,
     words: &[&str],
@@ -81,15 +81,19 @@ fn each_command_passes_the_gate_before_and_after_it(rt: HostRuntime) -> Result<(
     Ok(())
 }
 
+/// A script of two clients, each of which adds 1 to n.
 const TWO_CLIENTS: &str = "lines 64\nlife 2 power 0\n0 add n 1\n1 add n 1\n";
 
+/// The report of `TWO_CLIENTS` where the addition of client 1 comes first.
 const TURNED: &str =
     "life 0 clients 2 from 0\n0 1.1 add n 1 = sum 1\n1 0.1 add n 1 = sum 2\npower 0 kept 2 of 2 documents 1\n";
 
-/// A gate that holds client 0's first command until client 1's first was answered, for a while.
+/// A gate that holds client 0's first command until client 1's first command was answered, for 1,000,000,000 turns at most.
 #[derive(Drop)]
 struct HoldingGate {
+    /// Whether client 1's first command was answered.
     answered: AtomicBool,
+    /// How many turns were left when client 0 went on, and 0 where it waited in vain.
     attempts_left: AtomicU64,
 }
 
@@ -112,7 +116,7 @@ impl Gate for HoldingGate {
     }
 }
 
-/// Whether the other client is first while one is held, in a run by these words.
+/// Whether in a run by these words, in which client 0 is held, the addition of client 1 comes first, and client 0 did not wait in vain.
 fn comes_second<R: Threads + Wait + Sync + AllocGlobal>(
     rt: &R,
     words: &[&str],

@@ -10,7 +10,7 @@ use std::sync::Wait;
 use std::test::Fail;
 use std::thread::Threads;
 
-/// An environment with these arguments, with a 0 between two, of which the first is the program's name.
+/// An environment with the arguments in `all`: a byte 0 stands between two, and the first one is the program's name.
 #[derive(Drop)]
 struct Arguments<'a> {
     all: &'a [u8],
@@ -63,7 +63,7 @@ fn are_words(got: &[String], want: &[&str]) -> bool {
     got.len() == want.len()
 }
 
-/// The first arguments of which other words are given.
+/// The first row whose arguments give the program other words.
 fn first_wrong(alloc: Global, rows: &[(&[u8], &[&str])]) -> Result<Option<usize>, AllocError> {
     for (i, (all, want)) in rows.iter().enumerate() {
         let given = words(&(Arguments { all }, alloc))?;

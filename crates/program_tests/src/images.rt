@@ -12,6 +12,7 @@ use std::thread::Threads;
 pub(crate) type Row = (&'static str, &'static str, u8, usize, &'static str);
 
 const ROWS: [Row; 16] = [
+    // without a life there is no image
     ("image", "", 0, 0, ""),
     ("image", "lines 64\n", 0, 0, ""),
     (
@@ -21,7 +22,7 @@ const ROWS: [Row; 16] = [
         1,
         "image 1 64 3360\nroot 0\n1168 2\n1171 1\n2848 2\n2851 1\n",
     ),
-    // the last life's alone
+    // of two lives only the last one's image is written
     (
         "image",
         "lines 64\nlife 2 power 0\nlife 1 power 0\n",
@@ -36,7 +37,7 @@ const ROWS: [Row; 16] = [
         0,
         "refused line 2: life\n",
     ),
-    // an image of the old version, one of the new, and a document of each
+    // images of an empty store in the old version 1 and in the new version 2, and of a store with one document in each version
     (
         "recover",
         "image 1 64 3360\nroot 0\n1168 1\n1171 1\n",
@@ -110,7 +111,7 @@ const ROWS: [Row; 16] = [
     ),
 ];
 
-/// The result of a run with these words over an input: its exit code, how many trails it leaves, and the sink behind it.
+/// The result of a run with these words over an input: its exit code, how many trails it leaves, and the sink after it.
 fn ran<R: Threads + Wait + Sync + AllocGlobal>(
     rt: &R,
     asked: &str,
@@ -125,7 +126,7 @@ fn ran<R: Threads + Wait + Sync + AllocGlobal>(
     Ok((code, trails, sink))
 }
 
-/// The first run with another result.
+/// The first row whose run has another exit code, leaves another number of trails, or writes something else.
 pub(crate) fn first_wrong<R: Threads + Wait + Sync + AllocGlobal>(
     rt: &R,
     rows: &[Row],
@@ -139,7 +140,7 @@ pub(crate) fn first_wrong<R: Threads + Wait + Sync + AllocGlobal>(
     Ok(None)
 }
 
-/// Whether what a run of the script leaves as an image is recovered as its commands left it.
+/// Whether the image that a run of the script writes is recovered with the documents that the script's commands left.
 fn is_recovered<R: Threads + Wait + Sync + AllocGlobal>(rt: &R) -> Result<bool, AllocError> {
     let (code, trails, image) = ran(rt, "image", SCRIPT.as_bytes())?;
     let (again, none, sink) = ran(rt, "recover", image.written())?;

@@ -31,7 +31,7 @@ const ROWS: [Row; 9] = [
         0,
         "refused line 2: life\n",
     ),
-    // one life, and no cuts
+    // a script of clients that share callers has one life, and no cuts
     (
         "pool 2",
         "lines 64\nlife 1 power 0\nlife 1 power 0\n",
@@ -53,7 +53,7 @@ const ROWS: [Row; 9] = [
         0,
         "refused line 3: client\n",
     ),
-    // no clients share callers in a run
+    // in a run no clients share callers, so there are at most 8
     (
         "run",
         "lines 64\nlife 9 power 0\n",

@@ -38,7 +38,7 @@ pub(crate) fn run_over<R: Threads + Wait + Sync + AllocGlobal, S: Source, K: Sin
     (ended.status.code(), ended.trails.len())
 }
 
-/// Inputs, and how many trails a run with each leaves: one for each life that it tells of.
+/// The input of a run, its exit code, and how many trails it leaves: one for each life that its report has.
 const TRAILS: [(&str, u8, usize); 7] = [
     ("", 0, 0),
     ("lines 64\n", 0, 0),

@@ -36,7 +36,7 @@ const ROWS: [Row; 8] = [
         0,
         "refused line 3: command\n",
     ),
-    // a queue has no cuts
+    // a script of a queue has no cuts
     (
         "fifo",
         "lines 64\nlife 1 power 0\ncut 0 5\n",
@@ -44,7 +44,7 @@ const ROWS: [Row; 8] = [
         0,
         "refused line 3: client\n",
     ),
-    // and no commands of documents
+    // a script of a queue has no commands of documents, and one of documents none of a queue
     (
         "fifo",
         "lines 64\nlife 1 power 0\n0 put a 1\n",

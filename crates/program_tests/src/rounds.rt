@@ -10,12 +10,13 @@ use std::sync::atomic::{AtomicBool, AtomicU64, Ordering};
 use std::test::Fail;
 use std::thread::{Threads, yield_now};
 
+/// The clients of the script.
 const CLIENTS: u64 = 8;
 
 /// The commands of each client.
 const COMMANDS: u64 = 8;
 
-/// The turns that a client is held at most.
+/// The most turns for which a client is held.
 const TURNS: u64 = 1_000_000_000;
 
 /// A count of clients, and whether one waited for it in vain.
@@ -37,7 +38,7 @@ impl Count {
         self.count.fetch_add(1, Ordering::SeqCst);
     }
 
-    /// Waits until it is at least this.
+    /// Waits until the count is at least `least`, for `TURNS` turns at most.
     fn wait(&self, least: u64) {
         for _turn in 0..TURNS {
             if self.count.load(Ordering::SeqCst) >= least {
@@ -48,13 +49,14 @@ impl Count {
         self.is_worn.store(true, Ordering::SeqCst);
     }
 
-    /// Whether it reached this, and nobody waited in vain.
+    /// Whether the count is `all`, and no client waited for it in vain.
     fn has_come_to(&self, all: u64) -> bool {
         self.count.load(Ordering::SeqCst) == all && !self.is_worn.load(Ordering::SeqCst)
     }
 }
 
-/// A gate at which each client waits, before a command and behind it, until all have come there: so at one moment all are in it.
+/// A gate at which each client waits, before a command and behind it, until all have come there: so at one moment all are in
+/// the command.
 #[derive(Drop)]
 struct RoundGate {
     begun: Count,
@@ -69,7 +71,7 @@ impl Gate for RoundGate {
     }
 }
 
-/// A gate that holds client 0 in its fifth command until each other was answered its last.
+/// A gate that holds client 0 before its fifth command until the last command of each other client was answered.
 #[derive(Drop)]
 struct FifthGate {
     ended: Count,
@@ -86,7 +88,7 @@ impl Gate for FifthGate {
     }
 }
 
-/// The script: each client adds 1 so often.
+/// A script of one life of 8 clients, in which each client adds 1 to n `COMMANDS` times.
 fn script(alloc: Global) -> Result<String, AllocError> {
     let mut text = String::from_str(alloc, "lines 64\nlife 8 power 0\n")?;
     for _ in 0..COMMANDS {
@@ -104,7 +106,7 @@ fn name_of(line: &str) -> Option<(u8, u8)> {
     }
 }
 
-/// Whether just one of these lines is of this command, for each client.
+/// Whether, for each client, just one of these lines is of the client's command with this number.
 fn are_of_each(lines: &[&str], command: u8) -> bool {
     for client in *b"01234567" {
         let found = lines
@@ -117,14 +119,14 @@ fn are_of_each(lines: &[&str], command: u8) -> bool {
     true
 }
 
-/// The lines of the journal, of which each client has as many as it has commands.
+/// The lines of a report's journal, which stand behind the first line. Each client has as many as it has commands.
 fn journal(alloc: Global, report: &[u8]) -> Result<Vec<&str>, AllocError> {
     let text = std::str::from_utf8(report).unwrap_or("no text");
     let all = (CLIENTS * COMMANDS) as usize;
     text.lines().skip(1).take(all).collect(alloc)
 }
 
-/// Whether each command of a client stands beside the same one of each other.
+/// Whether the lines are 8 rounds, one after another: round k has command k of each client.
 fn are_rounds(lines: &[&str]) -> bool {
     let rounds = lines.chunks(CLIENTS as usize);
     rounds.len() == COMMANDS as usize
@@ -133,7 +135,7 @@ fn are_rounds(lines: &[&str]) -> bool {
             .all(|(round, command)| are_of_each(round, command))
 }
 
-/// Whether client 0's commands from the fifth on stand at the end.
+/// Whether the last four lines are client 0's commands 5 to 8.
 fn are_last(lines: &[&str]) -> bool {
     match lines {
         [.., fifth, sixth, seventh, eighth] => {
@@ -146,7 +148,7 @@ fn are_last(lines: &[&str]) -> bool {
     }
 }
 
-/// Whether the journal of a run past a gate is as it is wanted.
+/// Whether the journal of a run past a gate has rounds where `in_turn` is true, and otherwise ends with client 0's commands from the fifth on.
 fn has_journal<R: Threads + Wait + Sync + AllocGlobal, G: Gate + Sync>(
     rt: &R,
     gate: &G,

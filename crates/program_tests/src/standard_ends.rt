@@ -11,15 +11,16 @@ use std::sync::Wait;
 use std::test::Fail;
 use std::thread::Threads;
 
-/// What a call does. Behind the last of a list, calls do all that they can.
+/// What one call of a reader or a writer does. Calls behind the last of a list read or write all that they can.
 #[derive(Clone, Copy)]
 enum Does {
-    /// This many bytes at most.
+    /// The call reads or writes this many bytes at most.
     Bytes(usize),
+    /// The call fails with an error of this kind.
     Fails(ErrorKind),
 }
 
-/// What the call of this number does, from 0.
+/// What call number `call` does; calls are counted from 0.
 fn done(all: &[Does], call: usize) -> Does {
     all.get(call).copied().unwrap_or(Does::Bytes(usize::MAX))
 }
@@ -92,6 +93,7 @@ fn sink<'a>(alloc: Global, does: &'a [Does]) -> StdSink<FakeWriter<'a>> {
     })
 }
 
+/// What the first six reads of the script do.
 const READS: [Does; 6] = [
     Does::Bytes(3),
     Does::Fails(ErrorKind::Interrupted),
@@ -101,7 +103,7 @@ const READS: [Does; 6] = [
     Does::Fails(ErrorKind::UnexpectedEof),
 ];
 
-/// What each of those reads gives, where it does not fail, and the faults behind it; and one read more. Each is counted.
+/// The bytes that each of `READS` and one read more gives, or `None` where the read fails; and how many reads have failed by then.
 const GIVEN: [(Option<&[u8]>, u64); 7] = [
     (Some(b"lin"), 0),
     (None, 1),
@@ -112,7 +114,7 @@ const GIVEN: [(Option<&[u8]>, u64); 7] = [
     (Some(b" 64\n"), 3),
 ];
 
-/// Whether a read gave these bytes, or failed where none are wanted.
+/// Whether a read gave the bytes `want`, or failed where `want` is `None`.
 fn is_given(read: Result<usize, Failed>, buffer: &[u8], want: Option<&[u8]>) -> bool {
     match (read, want) {
         (Ok(n), Some(bytes)) => n == bytes.len() && buffer.get(..n) == Some(bytes),
@@ -121,7 +123,7 @@ fn is_given(read: Result<usize, Failed>, buffer: &[u8], want: Option<&[u8]>) -> 
     }
 }
 
-/// The first read with another result.
+/// The first read that gives something else than its row says, or after which other numbers of faults or reads are counted.
 fn first_wrong_read(does: &[Does], rows: &[(Option<&[u8]>, u64)]) -> Option<usize> {
     let mut source = source(does);
     for (i, (want, faults)) in rows.iter().enumerate() {
@@ -135,6 +137,7 @@ fn first_wrong_read(does: &[Does], rows: &[(Option<&[u8]>, u64)]) -> Option<usiz
     None
 }
 
+/// What the first five writes of `abcd` do.
 const WRITES: [Does; 5] = [
     Does::Bytes(3),
     Does::Fails(ErrorKind::Interrupted),
@@ -143,7 +146,8 @@ const WRITES: [Does; 5] = [
     Does::Fails(ErrorKind::BrokenPipe),
 ];
 
-/// What each of those writes takes, where it does not fail, and the faults and the bytes behind it; and one write more.
+/// How many bytes each of `WRITES` and one write more takes, or `None` where the write fails; how many writes have failed by then, and the bytes that were
+/// written by then. A write that takes nothing fails too.
 const TAKEN: [(Option<usize>, u64, &[u8]); 6] = [
     (Some(3), 0, b"abc"),
     (None, 1, b"abc"),
@@ -153,7 +157,7 @@ const TAKEN: [(Option<usize>, u64, &[u8]); 6] = [
     (Some(4), 3, b"abcaabcd"),
 ];
 
-/// The first write with another result.
+/// The first write that takes something else than its row says, or after which the faults or the bytes are others.
 fn first_wrong_write(
     alloc: Global,
     does: &[Does],
@@ -169,9 +173,10 @@ fn first_wrong_write(
     None
 }
 
+/// Two calls that fail.
 const FAILING: [Does; 2] = [Does::Fails(ErrorKind::Other), Does::Fails(ErrorKind::Other)];
 
-/// Whether a count that stands below its end rises to it, and stands still there.
+/// Whether the counts of faults and of reads, which begin one below the greatest number, rise to that number by a call that fails, and stay there.
 fn count_ends(alloc: Global) -> bool {
     let mut source = source(&FAILING);
     source.faults = u64::MAX - 1;
@@ -203,9 +208,10 @@ type Row = (&'static [Does], &'static [Does], u8, &'static str);
 
 const ROWS: [Row; 9] = [
     (&[], &[], 0, REPORT),
+    // short reads, and short writes
     (&[Does::Bytes(1), Does::Bytes(7)], &[], 0, REPORT),
     (&[], &[Does::Bytes(1), Does::Bytes(7)], 0, REPORT),
-    // no byte is the end of the input
+    // a read of no byte is the end of the input: before the script, and behind its first two lines
     (&[Does::Bytes(0)], &[], 0, ""),
     (
         &[Does::Bytes(24), Does::Bytes(0)],
@@ -213,7 +219,7 @@ const ROWS: [Row; 9] = [
         0,
         "life 0 clients 1 from 0\npower 0 kept 0 of 0 documents 0\n",
     ),
-    // an error is a fault, whatever its kind
+    // an error of a read or a write is a fault, whatever its kind
     (
         &[Does::Bytes(24), Does::Fails(ErrorKind::Other)],
         &[],
@@ -227,7 +233,7 @@ const ROWS: [Row; 9] = [
         5,
         "life ",
     ),
-    // and so is a write that takes nothing
+    // a write that takes nothing is a fault
     (&[], &[Does::Bytes(5), Does::Bytes(0)], 5, "life "),
 ];
 

@@ -14,7 +14,7 @@ const ROWS: [Row; 10] = [
         0,
         "yes events 13 crashes 3\n",
     ),
-    // the place word is not persisted
+    // the word of the place is stored and not persisted
     (
         "trace",
         "trace 1 64\n0 write_cell 0 0 1\n0 look 0\n0 link 0\n0 try_exclusive 1\n0 store_word 1 8 1\n0 store_word 1 0 1\n0 persist 1 8\n0 downgrade 1\n0 load_cur\n0 publish\ncrash 0 place 0\ncrash 1 place 1\n0 raise 3\ncrash 0 place 1\n0 retire\n",
@@ -46,7 +46,7 @@ const ROWS: [Row; 10] = [
     ),
     ("trace", "", 3, 0, "refused line 1: trace\n"),
     ("trace", "trace 9 64\n", 3, 0, "refused line 1: trace\n"),
-    // a trace is no script, and a script no trace
+    // a trace is no script, and a script is no trace
     (
         "trace",
         "lines 64\nlife 1 power 0\n0 put a 1\n",

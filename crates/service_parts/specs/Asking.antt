@@ -33,7 +33,7 @@ pub record IsOperationAnswered {O : Type 0} (r : Running O) (op : List ℕ) (tic
   pub answered : after.known.local.answered ≡ with_answer ticket reply before.known.local.answered
   pub ended : EndsIn after.known.local.steps before.known.times.answered after.known.times.answered
 
--- a caller comes back in no call, and has done nothing
+-- the caller is handed back with the entries, answers and reads that it had, and none of its operations began or was answered
 pub record IsLeftAlone {O : Type 0} (r : Running O) (before after : Seated) : Type 0 where
   pub caller : IsCallerOf r after
   pub keeps : KeepsLists before after
@@ -60,7 +60,8 @@ IsAsked r op reply before (Told after place) = IsBack r before after × (IsReadB
 IsAsked r op reply before (Worn after) = IsLeftAlone r before after
 IsAsked r op reply before (Stopped after) = IsStoppedIn r before after
 
--- What its caller has seen before, it has seen then: an answer stands at or above each place that the caller had seen.
+-- What the caller had seen before an operation, it has seen after it, and the answer stands at or above each place that the caller had seen before.
+-- Of a stopped caller nothing is said.
 abbrev pub KeepsPlaces : ℕ → Seated → AskOutcome → Type 0
 KeepsPlaces callers before (Told after place) = (seen : ℕ) → HasSeen callers seen before.known.local → (seen ≤ place) × HasSeen callers seen after.known.local
 KeepsPlaces callers before (Worn after) = (seen : ℕ) → HasSeen callers seen before.known.local → HasSeen callers seen after.known.local

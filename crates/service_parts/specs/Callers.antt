@@ -19,13 +19,13 @@ pub record IsSameCaller {O : Type 0} (r : Running O) (before after : Seated) : T
   pub of : IsSeatOf r after
   pub number : after.known.local.number ≡ before.known.local.number
 
--- what stands of a caller that is handed back: in no call, or stopped
+-- the states in which a caller is handed back: in no call, with a linked entry, or stopped
 abbrev pub IsHanded : {O : Type 0} → Running O → Handed → Type 0
 IsHanded r (Idle after) = IsCallerOf r after
 IsHanded r (Linked after) = IsSeatOf r after
 IsHanded r (Stopped after) = IsSeatOf r after.seat
 
--- what is handed back is the same caller
+-- what is handed back is the same caller of the service, in one of the states in which a caller is handed back
 pub record IsHandedBy {O : Type 0} (r : Running O) (before : Seated) (handed : Handed) : Type 0 where
   pub same : IsSameCaller r before (seat_of handed)
   pub stands : IsHanded r handed

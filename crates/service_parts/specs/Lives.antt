@@ -55,6 +55,6 @@ pub record IsServedBy {O T : Type 0} (o : Ghosts O) (object : O) (callers : ℕ)
   pub are_new : AreNew served.left.table callers new
   pub tells_so : TellsEach (tells served.left.table) new served.left.seats outputs
 
--- What is recovered by choice of what such a service left: the object after a prefix of its history, which has all that was answered.
+-- What is recovered by choice from what a service left when it was closed: the object after a prefix of its history, which has all that was answered.
 abbrev pub IsKeptOf : {O : Type 0} {o : Ghosts O} {object : O} {r : Remains} → IsLeftBy o object r → ℕ → Base → Type 0
 IsKeptOf {o = o} {r = r} left choice base = IsKeptBy o.line_count o.lawful o.step left.table left.seats r choice base

@@ -70,7 +70,7 @@ pub fn follow<O: Object, R: Wait>(
     unreachable!()
 }
 
-/// Asks for any operation, as an entry of the queue.
+/// Asks for an operation of any kind until it is answered, as an entry of the queue.
 fn update_once<O: Object, R: Wait>(
     rt: &R,
     service: &Service<O>,
@@ -100,7 +100,7 @@ fn update_once<O: Object, R: Wait>(
     unreachable!()
 }
 
-/// Asks for one that only reads, beside the queue or in it.
+/// Asks for an operation that only reads until it is answered, beside the queue where it can be, and otherwise as an entry of the queue.
 fn read_beside<O: Object, R: Wait>(
     rt: &R,
     service: &Service<O>,

@@ -19,7 +19,7 @@ use std::alloc::{AllocError, Global};
 use std::sync::Wait;
 use std::thread::Threads;
 
-/// No limit of steps, for each of 8 callers.
+/// The limits of 8 callers, none of which has a limit of steps.
 const NO_LIMITS: [u64; 8] = [u64::MAX; 8];
 
 /// A service of 1 to 8 callers without limits that starts from a base, and its callers. `Err` means out of memory.

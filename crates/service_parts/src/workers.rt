@@ -13,7 +13,7 @@ use std::alloc::{AllocError, Global};
 use std::sync::Wait;
 use std::thread::{Threads, map_vec};
 
-/// The result of a worker: the caller that it was lent, in whatever state it is, and its output, which is what it has to tell.
+/// The result of a worker: the caller that it was lent, in whatever state it is, and what the worker returns of its work.
 #[derive(Drop)]
 pub struct Worked<T> {
     pub caller: Handed,
@@ -22,13 +22,13 @@ pub struct Worked<T> {
 
 /// What the callers of a service do.
 pub trait Worker<O: Object> {
-    /// What each has to tell.
+    /// What the work of one caller returns.
     type Output: Send + Drop;
 
-    /// What is so of a caller whose worker has this output: of its service, and its seat as it was lent and as it is handed back.
+    /// The statement that holds of a caller whose work returned this output: about its service, and its seat as it was lent and as it is handed back.
     ghost tells: { Self → Running O → Seated → Seated → Self.Output → Type 0 };
 
-    /// Does it for one caller, and hands that caller back. Each caller's runs on a thread of its own.
+    /// Does the work of one caller, and hands the caller back. The work of each caller runs on a thread of its own.
     fn work<R: Wait>(&self, rt: &R, service: &Service<O>, caller: Caller) -> Worked<Self::Output>
         requires { IsCallerOf service.now caller }
         ensures { IsWorked service.now (tells self.now) caller result.caller result.output };
@@ -51,7 +51,7 @@ pub fn work_together<O: Object + Send + Sync, R: Threads + Wait + Sync, W: Worke
     Ok((handed, outputs))
 }
 
-/// The results of the workers.
+/// The results of the work of all callers, in the order of the callers.
 fn all_work<O: Object + Send + Sync, R: Threads + Wait + Sync, W: Worker<O> + Sync>(
     rt: &R,
     service: &Service<O>,
@@ -65,7 +65,7 @@ fn all_work<O: Object + Send + Sync, R: Threads + Wait + Sync, W: Worker<O> + Sy
     Ok(all)
 }
 
-/// The result of each.
+/// The result of the work of each caller, on a thread of its own: result `i` is of caller `i` of the list.
 fn each_works<O: Object + Send + Sync, R: Threads + Wait + Sync, W: Worker<O> + Sync>(
     rt: &R,
     service: &Service<O>,
@@ -86,7 +86,7 @@ fn each_works<O: Object + Send + Sync, R: Threads + Wait + Sync, W: Worker<O> + 
     )
 }
 
-/// The callers and the outputs, taken apart.
+/// The callers of all results, and what the work of each returned, in two lists.
 fn parted<T: Drop>(alloc: Global, all: Vec<Worked<T>>) -> Result<(Vec<Handed>, Vec<T>), AllocError>
     ensures callers { IfOk result (λ r. r.0.items ≡ map (λ w. w.caller) all.items) }
     ensures outputs { IfOk result (λ r. r.1.items ≡ map (λ w. w.output) all.items) }

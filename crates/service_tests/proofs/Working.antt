@@ -6,7 +6,7 @@ use Rattle.table_invariant.specs.Seats.{Seated}
 use Rattle.cx_table.specs.Remains.{AreSeats}
 use Rattle.cx_service.specs.declared.close.Handed.{Handed}
 use Rattle.cx_service.specs.Closes.{seat_of}
-use Rattle.service_tests.specs.Tests.{IsBack}
+use Rattle.service_tests.specs.Tests.{IsHandedBack}
 
 module _ {O R : Type 0} (r : Running O) (handed : R → Handed) where
   abbrev number : Seated → ℕ
@@ -17,7 +17,7 @@ module _ {O R : Type 0} (r : Running O) (handed : R → Handed) where
 
   -- each is handed back
   abbrev pub AllBack : List Seated → List R → Type 0
-  AllBack olds news = (k : ℕ) (d : Seated) (e : R) → k < length olds → IsBack r (get_or olds k d) (handed (get_or news k e))
+  AllBack olds news = (k : ℕ) (d : Seated) (e : R) → k < length olds → IsHandedBack r (get_or olds k d) (handed (get_or news k e))
 
   both : (olds : List Seated) (news : List R) → length news ≡ length olds → AllBack olds news → All (IsSeatOf r) (map after news) × (map number (map after news) ≡ map number olds)
   both [] [] long each = (All-nil (IsSeatOf r), refl)

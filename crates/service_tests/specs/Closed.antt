@@ -13,14 +13,14 @@ use Rattle.recovery.specs.Kept.{IsOpened}
 abbrev pub IsOpenedTally : Running Tally → Type 0
 IsOpenedTally = IsOpened (λ _. 64) (λ _. IsTally)
 
--- that is what such a service left when it was closed
+-- what a service of the running sum that was opened from a lawful base left when it was closed
 pub record IsClosedTally (r : Remains) : Type 0 where
   pub table : Running Tally
   pub seats : List Seated
   pub opened : IsOpenedTally table
   pub leaves : ClosingWitness table (instance_at table (λ _. tally_step) (λ _. tally_reads)) seats r
 
--- a service of any object of the given number of lines was opened from a lawful base, and that is what it left when it was closed
+-- what a service of any object of the given number of lines that was opened from a lawful base left when it was closed
 pub record IsClosed {O : Type 0} (o : Ghosts O) (lines : ℕ) (r : Remains) : Type 0 where
   pub table : Running O
   pub seats : List Seated

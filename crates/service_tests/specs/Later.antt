@@ -8,7 +8,7 @@ use Rattle.cx_base.specs.Tally.{tally_opening, tally_reads, tally_reply}
 use Rattle.cx_base.specs.TallyLaws.{tally_opens}
 use Rattle.cx_base.specs.WordLaws.{Words-at, Words-set, Words-then_zeros}
 
--- 512 words, the first of which is the version
+-- an image of the later format: 512 words, the first of which is the version 8
 pub record IsLater (image : List ℕ) : Type 0 where
   pub words : Words 512 image
   pub version : slice_index image 0 ≡ 8
@@ -39,7 +39,7 @@ later_image image = slice_set (slice_set (slice_set image 0 8) 2 (slice_index im
 abbrev pub earlier_format : OldFormat
 earlier_format = record { version = Some 7; lawful = IsEarlier; upgraded = later_image }
 
--- a word put that is not the first, and the first
+-- An image stays one of the later format where a word other than the first is put. Words become such an image where the first word, the version, is put.
 put_later : (image : List ℕ) (at v : ℕ) → 0 < at → v < 2 ^ 64 → IsLater image → IsLater (slice_set image at v)
 put_later image at v behind small is = record {
   words = Words-set 512 image at v small is.words;

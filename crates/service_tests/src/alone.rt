@@ -20,7 +20,7 @@ pub(crate) struct Alone {
 
 /// The object alone, after each caller's operations from a fresh base on, in the order of the tickets: the tickets are the numbers from
 /// 0 on, each once, each caller's updates and reads stand in the order of its calls, each reply is the object's, and each read is made
-/// after the updates below its place. `None` where it is not so.
+/// after the updates below its place. `None` where one of these does not hold.
 pub(crate) fn made_alone<O: Object>(
     alloc: Global,
     object: &O,
@@ -42,7 +42,7 @@ pub(crate) fn made_alone<O: Object>(
 }
 
 impl Alone {
-    /// Whether the region that a closed service published last is this one: its place, each caller's slot and the object part.
+    /// Whether the region that a closed service published last has the place and the object part of the object alone, and each caller's slot.
     pub(crate) fn is_left(&self, remains: &Remains, logs: &[Vec<Call>]) -> bool {
         match last_region(remains) {
             Some(region) => self.is_region(region, logs),
@@ -50,12 +50,12 @@ impl Alone {
         }
     }
 
-    /// Whether this is a region: its place, each caller's slot and the object part.
+    /// Whether a region has the place and the object part of the object alone, and each caller's slot as its log has it.
     pub(crate) fn is_region(&self, region: &[u64], logs: &[Vec<Call>]) -> bool {
         self.is_of(region) && are_slots(region, logs)
     }
 
-    // Whether a region has this place and object part.
+    // Whether a region has the place and the object part of the object alone.
     fn is_of(&self, region: &[u64]) -> bool {
         let (Some(place), Some(words)) = (region.first(), region.get(OBJECT_START as usize..))
         else {
@@ -65,7 +65,7 @@ impl Alone {
     }
 }
 
-// Whether the slots of a region are those of these callers.
+// Whether the slot of each of the 8 callers in a region is as the caller's log has it; a caller without a log made no update.
 fn are_slots(region: &[u64], logs: &[Vec<Call>]) -> bool {
     for caller in 0..8u32 {
         let log = match logs.get(caller as usize) {
@@ -120,7 +120,8 @@ fn last_update(log: &[Call]) -> (u64, [u64; 144]) {
     (updates, reply)
 }
 
-// The same over a memory, from the opening image on. `done` has the number of calls that each caller made before.
+// The calls of all logs are made in a memory, from the opening image on, in the order of their places. Returns the number of updates, and `None` where a
+// reply differs. `done` has the number of calls of each caller that were made before.
 fn replies_from_opening<O: Object, M: Memory>(
     object: &O,
     mem: &mut M,
@@ -162,7 +163,7 @@ fn replied<O: Object, M: Memory>(
     object.run(mem, op)
 }
 
-// The first caller whose next call is answered at this place, a read beside the queue or an update.
+// The first caller whose next call is answered at `place`: a read beside the queue where `beside` is true, and otherwise an update.
 fn caller_at(logs: &[Vec<Call>], done: &[usize], place: u64, beside: bool) -> Option<usize> {
     for (caller, log) in logs.iter().enumerate() {
         let k = *done.get(caller)?;
@@ -173,7 +174,7 @@ fn caller_at(logs: &[Vec<Call>], done: &[usize], place: u64, beside: bool) -> Op
     None
 }
 
-// Whether a caller's call of this number is answered so.
+// Whether call `k` of a log is answered at `place`: as a read beside the queue where `beside` is true, and otherwise as an update.
 fn is_next(log: &[Call], k: usize, place: u64, beside: bool) -> bool {
     match log.get(k) {
         Some(call) if beside => call.is_read(place),
@@ -182,7 +183,7 @@ fn is_next(log: &[Call], k: usize, place: u64, beside: bool) -> bool {
     }
 }
 
-// A call that comes next, with its caller and its number among the caller's: one at this place, a read before an update.
+// The caller and the number of the call that comes next at `place`: a read beside the queue at that place, and where there is none the update.
 fn next_of(logs: &[Vec<Call>], done: &[usize], place: u64) -> Option<(usize, usize)> {
     let caller = match caller_at(logs, done, place, true) {
         Some(caller) => caller,
@@ -205,14 +206,14 @@ fn place_after(call: &Call, place: u64) -> u64 {
     }
 }
 
-// Of a caller one call more was made.
+// Adds 1 to the number of calls that a caller made.
 fn count_call(done: &mut [usize], caller: usize) {
     if let Some(count) = done.get_mut(caller) {
         *count = count.saturating_add(1);
     }
 }
 
-// The number of all calls.
+// The number of calls in all logs.
 fn calls_in(logs: &[Vec<Call>]) -> usize {
     let mut count = 0usize;
     for log in logs {
@@ -221,7 +222,8 @@ fn calls_in(logs: &[Vec<Call>]) -> usize {
     count
 }
 
-// From a lawful image on: each call at its place has the reply of the object.
+// The calls of all logs are made in a memory that has a lawful image, in the order of their places. Returns the number of updates, and `None` where no
+// call is answered at the next place, or a reply is not the object's.
 fn replies_in_order<O: Object, M: Memory>(
     object: &O,
     mem: &mut M,

@@ -12,7 +12,7 @@ use doc_store::DocStore;
 use std::alloc::{AllocError, Global};
 use std::test::Fail;
 
-// A caller makes an update, with one try of each call. `None`: it was not linked, or not answered.
+// A caller makes an update by one submit and one drive, each of one try, and is returned. `None`: the entry was not linked, or not answered.
 fn updated<O: Object>(service: &Service<O>, caller: Caller, op: &[u64; 144]) -> Option<Caller>
     requires { IsCallerOf service.now caller }
     ensures { IfSome result (IsCallerOf service.now) }
@@ -42,7 +42,7 @@ fn taken_by<O: Object>(
     Some((first.taken(), second.taken()))
 }
 
-// The same of two callers of a new document store.
+// How many entries of others each of two callers of a new document store applied by their write sets, after each made an update.
 fn taken(alloc: Global, ops: &[[u64; 144]; 2]) -> Result<Option<(u64, u64)>, AllocError> {
     let Ok((service, callers)) = all_started(alloc, DocStore::of(64), 2) else {
         return Err(AllocError);

@@ -3,7 +3,7 @@
 ghost use Rattle.std.specs.Prelude.{◌≤◌, IsTrue};
 ghost use Rattle.cx_service.specs.Callers.{IsCallerOf, IsLinkedOf};
 ghost use Rattle.cx_service.specs.Closes.{seat_of};
-ghost use Rattle.service_tests.specs.Tests.{IsBack, IsOf};
+ghost use Rattle.service_tests.specs.Tests.{IsHandedBack, IsHandedCaller};
 
 use crate::tasks::Work;
 use cx_base::Object;
@@ -81,7 +81,7 @@ impl Call {
         }
     }
 
-    // Whether no further turn is of use.
+    // Whether this answer ends the call, so that no further turn is of use.
     fn is_last(&self) -> bool {
         match self.came {
             Came::Linked(_) | Came::Again | Came::Pending | Came::Full(_) => false,
@@ -89,7 +89,7 @@ impl Call {
         }
     }
 
-    // Whether another caller is to go on first: it holds a replica, or needs the entries in the cells as long as it drives.
+    // Whether another caller is to go on first: it holds a replica, or needs the entries in this caller's cells as long as it drives.
     fn waits(&self) -> bool {
         match self.came {
             Came::Pending | Came::Full(_) => true,
@@ -98,7 +98,7 @@ impl Call {
     }
 }
 
-// A call without a reply.
+// The answer to a turn that has no reply.
 fn noted(came: Came, steps: u64) -> Call {
     Call {
         came,
@@ -107,7 +107,7 @@ fn noted(came: Came, steps: u64) -> Call {
     }
 }
 
-// A call with a reply.
+// The answer to a turn that has a reply.
 fn replied(came: Came, steps: u64, reply: &[u64; 144]) -> Call {
     let reply = *reply;
     Call { came, steps, reply }
@@ -116,7 +116,7 @@ fn replied(came: Came, steps: u64, reply: &[u64; 144]) -> Call {
 /// How a call is made.
 #[derive(Clone, Copy)]
 pub(crate) struct Way {
-    /// Whether each submit has two tries, and else one.
+    /// Whether each submit has two tries; otherwise it has one.
     pub(crate) twice: bool,
     /// The most turns: each submits, drives the linked entry once, or reads beside the queue once.
     pub(crate) turns: u64,
@@ -166,7 +166,7 @@ fn tries(twice: bool) -> u64
     if twice { 2 } else { 1 }
 }
 
-// A submit.
+// A turn that submits, by one or two tries.
 fn submitted<O: Object>(
     service: &Service<O>,
     caller: Caller,
@@ -174,7 +174,7 @@ fn submitted<O: Object>(
     twice: bool,
 ) -> (Handed, Call)
     requires { IsCallerOf service.now caller }
-    ensures { IsBack service.now caller result.0 }
+    ensures { IsHandedBack service.now caller result.0 }
 {
     match service.submit(caller, op, tries(twice)) {
         Submitted::Linked(linked) => {
@@ -203,7 +203,7 @@ fn submitted<O: Object>(
 // A turn that drives.
 fn driven<O: Object>(service: &Service<O>, linked: Linked) -> (Handed, Call)
     requires { IsLinkedOf service.now linked }
-    ensures { IsBack service.now linked result.0 }
+    ensures { IsHandedBack service.now linked result.0 }
 {
     let mut reply = [0; 144];
     match service.drive(linked, &mut reply, 1) {
@@ -226,7 +226,7 @@ fn driven<O: Object>(service: &Service<O>, linked: Linked) -> (Handed, Call)
 fn looked<O: Object>(service: &Service<O>, caller: Caller, op: &[u64; 144]) -> (Handed, Call)
     requires caller { IsCallerOf service.now caller }
     requires reads { IsTrue (O.only_reads service.now.object op.now) }
-    ensures { IsBack service.now caller result.0 }
+    ensures { IsHandedBack service.now caller result.0 }
 {
     let mut reply = [0; 144];
     match service.try_read(caller, op, &mut reply, 1) {
@@ -245,7 +245,7 @@ fn looked<O: Object>(service: &Service<O>, caller: Caller, op: &[u64; 144]) -> (
     }
 }
 
-// A turn of a caller with no call under way.
+// A turn of a caller with no call under way: a read beside the queue where the way says so and the operation only reads, and otherwise a submit.
 fn begun<O: Object>(
     service: &Service<O>,
     caller: Caller,
@@ -253,7 +253,7 @@ fn begun<O: Object>(
     way: Way,
 ) -> (Handed, Call)
     requires { IsCallerOf service.now caller }
-    ensures { IsBack service.now caller result.0 }
+    ensures { IsHandedBack service.now caller result.0 }
 {
     if way.beside && service.object().reads(op) {
         looked(service, caller, op)
@@ -262,15 +262,15 @@ fn begun<O: Object>(
     }
 }
 
-// A turn of a caller.
+// A turn of a caller in any state: it begins a call, drives the entry that it linked, or is stopped already.
 fn turned<O: Object>(
     service: &Service<O>,
     handed: Handed,
     op: &[u64; 144],
     way: Way,
 ) -> (Handed, Call)
-    requires { IsOf service.now handed }
-    ensures { IsBack service.now (seat_of handed) result.0 }
+    requires { IsHandedCaller service.now handed }
+    ensures { IsHandedBack service.now (seat_of handed) result.0 }
 {
     match handed {
         Handed::Idle(caller) => begun(service, caller, op, way),
@@ -289,8 +289,8 @@ pub(crate) fn asked<O: Object>(
     op: &[u64; 144],
     way: Way,
 ) -> (Handed, Call)
-    requires { IsOf service.now handed }
-    ensures { IsBack service.now (seat_of handed) result.0 }
+    requires { IsHandedCaller service.now handed }
+    ensures { IsHandedBack service.now (seat_of handed) result.0 }
 {
     let mut handed = handed;
     let mut last = noted(Came::Pending, 0);
@@ -326,14 +326,15 @@ pub(crate) fn all_asked<O: Object>(
     way: Way,
     log: &mut Vec<Call>,
 ) -> Handed
-    requires { IsOf service.now handed }
-    ensures { IsBack service.now (seat_of handed) result }
+    requires { IsHandedCaller service.now handed }
+    ensures { IsHandedBack service.now (seat_of handed) result }
 {
     let count = work.count(u64::from(number_of(&handed)));
     asked_between(service, handed, work, (0, count), way, log)
 }
 
-/// The same of its operations from one on to below another.
+/// A caller asks for its operations from number `ends.0` on to below `ends.1`, one after another as long as they are answered, and what it is told is put
+/// at the end of a list.
 pub(crate) fn asked_between<O: Object>(
     service: &Service<O>,
     handed: Handed,
@@ -342,8 +343,8 @@ pub(crate) fn asked_between<O: Object>(
     way: Way,
     log: &mut Vec<Call>,
 ) -> Handed
-    requires { IsOf service.now handed }
-    ensures { IsBack service.now (seat_of handed) result }
+    requires { IsHandedCaller service.now handed }
+    ensures { IsHandedBack service.now (seat_of handed) result }
 {
     let mut handed = handed;
     let number = u64::from(number_of(&handed));
@@ -358,13 +359,13 @@ pub(crate) fn asked_between<O: Object>(
     handed
 }
 
-// The looks that a caller makes at most until the current place is one.
+// The most looks that a caller takes at the current place while it waits for a place.
 const LOOKS: u64 = 1_000_000_000;
 
-// A caller with no call under way waits until the current place is at or above one.
+// A caller with no call under way waits until the current place is at or above `place`; a caller in a call or stopped is returned at once.
 fn waited<O: Object>(service: &Service<O>, handed: Handed, place: u64) -> Handed
-    requires { IsOf service.now handed }
-    ensures { IsBack service.now (seat_of handed) result }
+    requires { IsHandedCaller service.now handed }
+    ensures { IsHandedBack service.now (seat_of handed) result }
 {
     if place == 0 {
         return handed;
@@ -375,9 +376,10 @@ fn waited<O: Object>(service: &Service<O>, handed: Handed, place: u64) -> Handed
     }
 }
 
+// An idle caller waits until the current place is at or above `place`, for `LOOKS` looks at most.
 fn waited_idle<O: Object>(service: &Service<O>, caller: Caller, place: u64) -> Handed
     requires { IsCallerOf service.now caller }
-    ensures { IsBack service.now caller result }
+    ensures { IsHandedBack service.now caller result }
 {
     let mut caller = caller;
     for _look in 0..LOOKS {

@@ -1,4 +1,4 @@
-//! Cells are given again, or kept by a caller that is stopped.
+//! The cells of a caller are given to its later updates, or kept by another caller that is stopped.
 
 use crate::calls::{Call, Came, SUBMIT_TWICE, UPDATE, UPDATE_TWICE};
 use crate::holds::holds;
@@ -9,7 +9,7 @@ use cx_core::FullNote;
 use std::alloc::{AllocError, Global};
 use std::test::Fail;
 
-// Caller 1 makes an update with a limit of steps, and then caller 0 makes sixteen and submits a further one.
+// Caller 1 makes an update with a limit of steps. Then caller 0 makes 16 updates, as many as it has cells, and submits a further one.
 const PARTS: [Part; 3] = [
     (
         1,
@@ -37,14 +37,14 @@ const PARTS: [Part; 3] = [
     ),
 ];
 
-/// What keeps the cells of caller 0.
+/// The note that caller 0 is given where caller 1 keeps its cells.
 pub(crate) const KEPT: FullNote = FullNote {
     holder: 1,
     need: 0,
     ticket: 1,
 };
 
-// Whether all are told that their updates are answered.
+// Whether each call in a log is answered.
 fn are_answered(log: &[Call]) -> bool {
     for call in log {
         if !call.is_answered() {
@@ -54,8 +54,8 @@ fn are_answered(log: &[Call]) -> bool {
     true
 }
 
-// Whether caller 0 was told of the last update that caller 1 keeps its cells, and not that it is linked. `None`: it was told something
-// else, or an earlier update was not answered, or caller 1 keeps cells and was not stopped.
+// Whether the last call of caller 0 found its cells kept by caller 1. `Some(false)`: it linked its entry. `None`: it came to something else, an earlier
+// update was not answered, or caller 1 keeps the cells and was not stopped.
 fn is_full(log: &[Call]) -> Option<bool> {
     let (first, rest) = log.split_first()?;
     let (last, sixteen) = rest.split_last()?;
@@ -77,7 +77,8 @@ fn is_stopped(call: &Call) -> bool {
     }
 }
 
-// Whether caller 1, at each limit up to that at which it is answered, keeps the cells of caller 0 or does not, and keeps them at one.
+// Whether `is_full` returns an answer at each limit of caller 1 up to the first at which its update is answered, and caller 1 keeps the cells of caller 0
+// at one of them.
 fn are_kept_at_some_limit(alloc: Global) -> Result<bool, AllocError> {
     let mut kept = false;
     for limit in 0..2000u64 {

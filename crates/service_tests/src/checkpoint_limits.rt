@@ -45,7 +45,7 @@ fn is_right(alloc: Global, limit: u64) -> Result<bool, AllocError> {
     Ok(place == Some(0) && words.as_slice() == first_region(alloc)?.as_slice())
 }
 
-// The first limit where it is not, of those that end the first and the last steps, and of each 8th between.
+// The first limit at which a checkpoint is not as it is to be, of the limits that end its first and last steps, and of each 8th between.
 fn first_wrong(alloc: Global) -> Result<Option<u64>, AllocError> {
     for limit in 0..STEPS + 2 {
         if limit > 8 && limit < STEPS - 8 && limit % 8 > 0 {

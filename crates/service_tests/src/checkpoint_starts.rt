@@ -1,4 +1,4 @@
-//! A service that starts from an image which was taken of another.
+//! A service that starts from an image which was taken of another service.
 
 ghost use Rattle.std.specs.Prelude.{◌≡◌, [], ◌∷◌, IfSome};
 ghost use Rattle.cx_base.specs.Tally.{IsTally};
@@ -65,7 +65,7 @@ fn started(alloc: Global, base: &Base) -> Option<(Service<Tally>, Caller)>
     }
 }
 
-// The item of a list of one.
+// The only caller of a list. `None` where the list has none, or more than one.
 fn one(mut callers: Vec<Caller>) -> Option<Caller>
     ensures { IfSome result (λ c. callers.items ≡ c ∷ []) }
 {

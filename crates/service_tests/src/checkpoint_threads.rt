@@ -68,7 +68,8 @@ fn taken(alloc: Global, service: &Service<Tally>, caller: Caller) -> Option<(Cal
     }
 }
 
-// Caller 0 takes an image behind its update at a ticket, which is above that; any other goes on.
+// Caller 0 takes an image behind its update at a ticket, and puts it at the end of `images`; any other caller takes none. `None`: the image is not above
+// the ticket, no image was taken, or memory ran out.
 fn behind(
     alloc: Global,
     service: &Service<Tally>,
@@ -112,7 +113,7 @@ fn works<R: Wait>(rt: &R, alloc: Global, service: &Service<Tally>, caller: Calle
     })
 }
 
-// All callers of a new service do so on threads of their own.
+// All callers of a new service make their updates, each on a thread of its own, and caller 0 takes its images: what each did.
 fn all_worked<R: Threads + Wait + Sync>(
     rt: &R,
     alloc: Global,
@@ -172,7 +173,7 @@ fn are_right(alloc: Global, all: &[Option<Worked>]) -> Result<bool, AllocError> 
     }
 }
 
-// The least number of callers, from 1 to 8, of which it is not so.
+// The least number of callers, from 1 to 8, with which a call is not answered, or an image is not the region after the entries below its place.
 fn first_wrong<R: Threads + Wait + Sync>(rt: &R, alloc: Global) -> Result<Option<u32>, AllocError> {
     for callers in 1..9u32 {
         let all = all_worked(rt, alloc, callers)?;

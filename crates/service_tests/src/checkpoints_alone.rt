@@ -48,7 +48,8 @@ fn step(region: &mut [u64], added: Added) {
     put(region, slot + 1, sum);
 }
 
-/// Whether images, whose places do not fall, are the region after the entries below their places. An entry that is not there makes none right.
+/// Whether images, whose places do not fall, are the region after the entries below their places. Returns false where an
+/// entry below one of the places is missing.
 pub(crate) fn are_images(region: &mut [u64], entries: &[Option<Added>], images: &[Image]) -> bool {
     let mut at = 0u64;
     for (place, words) in images {

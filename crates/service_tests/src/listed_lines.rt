@@ -8,21 +8,23 @@ use crate::pairs::{Ended, Turn, run_pair};
 use crate::starts::NO_LIMIT;
 use crate::tasks::Work;
 use cx_base::Object;
+use cx_core::{HEAD_LINES, LINE_WORDS};
 use cx_table::Remains;
 use doc_store::DocStore;
 use std::alloc::{AllocError, Global};
 use std::test::Fail;
 
-/// The fewest lines of an object with which gaps are noted.
+/// The fewest lines of an object for which the ring of gaps is written.
 pub(crate) const LINES: u64 = 4096;
 
-/// The steps of a copy of all lines of such an object, at least: a load of each word of both replicas.
-pub(crate) const WHOLE: u64 = 16 * (146 + LINES);
+/// The fewest steps of a copy of all lines of an object of `LINES` lines: a load of each word of both replicas.
+pub(crate) const WHOLE: u64 = 2 * LINE_WORDS * (HEAD_LINES + LINES);
 
 // Caller 0 makes its first updates and caller 1 its own, then caller 0 makes enough more for caller 1 to fall behind, which then makes one more.
 const BEHIND: [Turn; 4] = [(0, 2), (1, 1), (0, 66), (1, 2)];
 
-// The tickets of more than a round of the ring of gaps come between, and then again fewer.
+// As `BEHIND`, and then a third update of caller 1: before its second update caller 0 makes more than the 1,024 updates of a round of the ring of gaps,
+// and before its third fewer.
 const ROUND: [Turn; 6] = [(0, 2), (1, 1), (0, 1150), (1, 2), (0, 1250), (1, 3)];
 
 // What the callers ask for, their turns, how many lines each update of caller 0 changes beside the place's, and whether the last copy of
@@ -55,7 +57,7 @@ const ROWS: [Row; 7] = [
         lines: 16,
         is_whole: true,
     },
-    // one entry of a line more is between
+    // one of caller 0's updates in between changes one line more than a slot of the ring of gaps has room for
     Row {
         work: Work::Blocks {
             count: 12,
@@ -99,7 +101,7 @@ const ROWS: [Row; 7] = [
     },
 ];
 
-// The steps of the last call of a caller.
+// The steps of the last call of a caller, and 0 where it made fewer than two.
 fn last_steps(log: &[Call]) -> u64 {
     match log {
         [.., before, last] => last.steps.saturating_sub(before.steps),
@@ -107,7 +109,8 @@ fn last_steps(log: &[Call]) -> u64 {
     }
 }
 
-// The steps of the last call of caller 1, where the object alone replies the same as all were told, and the region published last is its.
+// The steps of the last call of caller 1. `None` where the object alone does not reply what the callers were told, or the region published last is not
+// the object's.
 fn steps_alone(alloc: Global, ended: &Ended, work: Work) -> Result<Option<u64>, AllocError> {
     let Some(alone) = made_alone(alloc, &DocStore::of(LINES), work, &ended.logs)? else {
         return Ok(None);
@@ -118,7 +121,7 @@ fn steps_alone(alloc: Global, ended: &Ended, work: Work) -> Result<Option<u64>, 
     })
 }
 
-// How many lines of two regions differ, beside that of the place.
+// How many lines of two regions differ, without the line of the place, which is the first.
 fn lines_apart(one: &[u64], other: &[u64]) -> u64 {
     let mut count = 0u64;
     for (line, old) in one.chunks(8).zip(other.chunks(8)).skip(1) {
@@ -129,19 +132,19 @@ fn lines_apart(one: &[u64], other: &[u64]) -> u64 {
     count
 }
 
-// The same of the regions that two closed services published last.
+// How many lines differ between the regions that two closed services published last, without the line of the place.
 fn apart(one: &Remains, other: &Remains) -> Option<u64> {
     Some(lines_apart(last_region(one)?, last_region(other)?))
 }
 
-// How many lines an update of caller 0 changes beside the place's.
+// How many lines an update of caller 0 changes, without the line of the place.
 fn lines_changed(alloc: Global, work: Work) -> Result<Option<u64>, AllocError> {
     let before = run_pair(alloc, DocStore::of(LINES), NO_LIMIT, work, &[(0, 20)])?;
     let after = run_pair(alloc, DocStore::of(LINES), NO_LIMIT, work, &[(0, 21)])?;
     Ok(apart(&before.remains, &after.remains))
 }
 
-// Whether the updates of a row change this many lines, and caller 1 copies whole or not.
+// Whether the updates of a row change as many lines as the row says, and the last copy of caller 1 is whole where the row says so and by lines elsewhere.
 fn is_right(alloc: Global, row: &Row) -> Result<bool, AllocError> {
     if lines_changed(alloc, row.work)? != Some(row.lines) {
         return Ok(false);
@@ -153,7 +156,7 @@ fn is_right(alloc: Global, row: &Row) -> Result<bool, AllocError> {
     })
 }
 
-// The first row where it is otherwise.
+// The first row whose updates change another number of lines, or whose last copy is not as the row says.
 fn first_wrong(alloc: Global, rows: &[Row]) -> Result<Option<usize>, AllocError> {
     for (i, row) in rows.iter().enumerate() {
         if !is_right(alloc, row)? {

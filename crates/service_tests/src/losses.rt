@@ -11,12 +11,14 @@ use crate::holds::holds;
 use crate::starts::NO_LIMIT;
 use crate::sum_calls::{Outcome, Part, played, played_from};
 use crate::tasks::Work;
-use cx_core::Base;
+use cx_core::{Base, OBJECT_START};
 use cx_table::Remains;
 use recovery::Image;
 use std::alloc::{AllocError, Global};
 use std::test::Fail;
 
+// What the loss of power leaves of a dirty word: its durable value by choice 0, its volatile value by choice 1, and by another choice a value that is
+// computed from the choice and the word's address, as in `word_left`.
 const CHOICES: [u64; 5] = [0, 1, 2, 3, 0x9e37_79b9_7f4a_7c15];
 
 // Caller 1 makes an update that adds 1, whereupon caller 0 comes with a limit of steps and an update that adds 1000.
@@ -39,7 +41,7 @@ const PARTS: [Part; 2] = [
     ),
 ];
 
-// Whether caller 0 was answered, the last.
+// Whether the last call in the log, which is caller 0's, was answered.
 fn is_answered(log: &[Call]) -> bool {
     match log.last() {
         Some(call) => call.is_answered(),
@@ -47,22 +49,32 @@ fn is_answered(log: &[Call]) -> bool {
     }
 }
 
-// The word of a base.
+// The word of a base at a place of its region, and 0 where the region has no such place.
 fn word(base: &Base, at: usize) -> u64 {
     base.words.as_slice().get(at).copied().unwrap_or(0)
 }
 
-// Whether a base has this place and sum, this number and sum that caller 0 was answered last, and those of caller 1, which is answered 1.
+// Where the sum stands in a region: word 1 of the object part.
+const SUM_AT: usize = OBJECT_START as usize + 1;
+
+// The slot of caller 0: the number of its last entry, and behind it the reply.
+const FIRST_SLOT: usize = 8;
+
+// The slot of caller 1, behind the 145 words of that of caller 0.
+const SECOND_SLOT: usize = 153;
+
+// Whether a base has the place `place` and the sum `sum`, in the slot of caller 0 the number `number` and the reply `reply`, and in the slot of caller 1
+// the number 1 and the reply 1.
 fn is_base(base: &Base, place: u64, sum: u64, number: u64, reply: u64) -> bool {
     base.place == place
-        && word(base, 1169) == sum
-        && word(base, 8) == number
-        && word(base, 9) == reply
-        && word(base, 153) == 1
-        && word(base, 154) == 1
+        && word(base, SUM_AT) == sum
+        && word(base, FIRST_SLOT) == number
+        && word(base, FIRST_SLOT + 1) == reply
+        && word(base, SECOND_SLOT) == 1
+        && word(base, SECOND_SLOT + 1) == 1
 }
 
-// Whether caller 0's update is kept in a base. `None`: it is neither the base with it nor the one without.
+// Whether caller 0's update is kept in a base. `None`: the base is neither the one with that update nor the one without it.
 fn is_kept(base: &Base) -> Option<bool> {
     if is_base(base, 2, 1001, 1, 1001) {
         return Some(true);
@@ -96,25 +108,26 @@ fn kept(alloc: Global, remains: &Remains) -> Option<u64>
     Some(count)
 }
 
-// What a service leaves whose caller 0 has a limit of steps.
+// What a service leaves when it is closed, after `PARTS` were asked for with a limit of steps for caller 0.
 fn stopped(alloc: Global, limit: u64) -> Result<Outcome, AllocError>
     ensures { IfOk result (λ p. IsClosedTally p.remains) }
 {
     played(alloc, 0, &[limit, NO_LIMIT], &PARTS)
 }
 
-// How many of the choices keep the update at a limit, and whether it was answered.
+// How many of the choices keep caller 0's update where it has this limit of steps, and whether the update was answered.
 fn kept_at(alloc: Global, limit: u64) -> Result<(Option<u64>, bool), AllocError> {
     let stopped = stopped(alloc, limit)?;
     Ok((kept(alloc, &stopped.remains), is_answered(&stopped.log)))
 }
 
-// The steps by which an update is linked, before which it is lost, those by which it is published, behind another's whose write set is
-// taken, and those by which it is answered.
+// The steps by which caller 0's update is linked. With fewer it is lost.
 const LINKED: u64 = 148;
 
+// The steps by which caller 0's update is published, where it takes the write set of caller 1's update before it.
 const PUBLISHED: u64 = 193;
 
+// The steps by which caller 0's update is answered.
 const ANSWERED: u64 = 195;
 
 // The first of limits, each `step` above the one before, at which the update is kept or answered.
@@ -152,7 +165,7 @@ fn are_parted(alloc: Global) -> Result<bool, AllocError> {
     Ok(parted)
 }
 
-// Whether it is answered at this limit, and kept by each choice.
+// Whether caller 0's update is answered at this limit of steps, and kept by each of the five choices.
 fn is_answered_at(alloc: Global, limit: u64) -> Result<bool, AllocError> {
     let (count, answered) = kept_at(alloc, limit)?;
     Ok(answered && count == Some(5))
@@ -165,7 +178,7 @@ fn published_updates_may_be_kept_and_answered_ones_are(rt: HostRuntime) -> Resul
     Ok(())
 }
 
-// Lays the pairs of an image out as words. It says whether each has its place, and none is 0.
+// Puts the word of each pair of an image at its place in `words`. Returns whether each place is within `words`, and no word is 0.
 fn laid_out(image: &Image, words: &mut [u64]) -> bool {
     for (at, word) in image.pairs.as_slice() {
         if *word == 0 || !is_put(words, *at as usize, *word) {
@@ -175,7 +188,7 @@ fn laid_out(image: &Image, words: &mut [u64]) -> bool {
     true
 }
 
-// Puts a word at a place. It says whether there is the place.
+// Puts a word at a place. Returns whether the place is within `words`.
 fn is_put(words: &mut [u64], at: usize, word: u64) -> bool {
     match words.get_mut(at) {
         Some(place) => {
@@ -186,7 +199,8 @@ fn is_put(words: &mut [u64], at: usize, word: u64) -> bool {
     }
 }
 
-// The word that a choice leaves.
+// The word at `at` that a loss of power leaves by a choice: the durable one where it is not dirty or the choice is 0, the volatile one by choice 1, and by
+// another choice the product of the choice and the address plus 1, which wraps.
 fn word_left(remains: &Remains, choice: u64, at: usize) -> u64 {
     let durable = remains.durable.get(at).copied().unwrap_or(0);
     if remains.dirty.get(at).copied() != Some(true) || choice == 0 {
@@ -198,7 +212,7 @@ fn word_left(remains: &Remains, choice: u64, at: usize) -> u64 {
     choice.wrapping_mul(at as u64).wrapping_add(choice)
 }
 
-// Whether words are as a choice leaves them.
+// Whether each word is the one that a loss of power leaves by a choice.
 fn are_left(remains: &Remains, choice: u64, words: &[u64]) -> bool {
     for (at, word) in words.iter().enumerate() {
         if *word != word_left(remains, choice, at) {
@@ -219,7 +233,7 @@ fn is_left(
     Ok(laid_out(image, &mut words) && are_left(remains, choice, &words))
 }
 
-// Whether the image is of two callers of 64 lines, and as the choice leaves it.
+// Whether the image that a loss of power leaves by a choice is of two callers and 64 lines, with the words that the choice leaves.
 fn is_left_by(alloc: Global, remains: &Remains, choice: u64) -> Result<bool, AllocError>
     requires { IsClosedTally remains.now }
 {
@@ -241,10 +255,10 @@ fn left_at(alloc: Global, limit: u64) -> Result<(bool, bool), AllocError> {
     Ok((true, stopped.remains.dirty.contains(&true)))
 }
 
-// Whether that is so at each limit, and some word is dirty at one.
+// Whether at each limit from the link of caller 0's update on each choice leaves its image, and at one of the limits a word is dirty.
 fn are_left_by_choice(alloc: Global) -> Result<bool, AllocError> {
     let mut dirty = false;
-    for limit in 148..200u64 {
+    for limit in LINKED..200 {
         let (left, is_dirty) = left_at(alloc, limit)?;
         if !left {
             return Ok(false);
@@ -260,6 +274,7 @@ fn dirty_words_are_left_by_choice(rt: HostRuntime) -> Result<(), Fail> {
     Ok(())
 }
 
+// Caller 0 of the next service makes an update that adds 5.
 const NEXT: [Part; 1] = [(
     0,
     Work::Adds {
@@ -290,7 +305,7 @@ fn goes_on_by(alloc: Global, remains: &Remains, choice: u64) -> Result<bool, All
     }
 }
 
-// Whether it does so by each choice.
+// Whether by each choice a service goes on from what is recovered, where caller 0 had this limit of steps.
 fn goes_on_at(alloc: Global, limit: u64) -> Result<bool, AllocError> {
     let stopped = stopped(alloc, limit)?;
     for choice in CHOICES {
@@ -301,7 +316,7 @@ fn goes_on_at(alloc: Global, limit: u64) -> Result<bool, AllocError> {
     Ok(true)
 }
 
-// The first limit at which it does not.
+// The first limit of caller 0 at which a service does not go on from what is recovered by some choice.
 fn first_wrong(alloc: Global, limits: &[u64]) -> Result<Option<u64>, AllocError> {
     for limit in limits {
         if !goes_on_at(alloc, *limit)? {
@@ -311,6 +326,7 @@ fn first_wrong(alloc: Global, limits: &[u64]) -> Result<Option<u64>, AllocError>
     Ok(None)
 }
 
+// Limits of steps of caller 0: no step, one step fewer than its update is linked with, just so many, some more, and more than the whole update takes.
 const LIMITS: [u64; 5] = [0, 147, 148, 160, 2000];
 
 #[test]

@@ -58,7 +58,7 @@ impl Meeting {
         }
     }
 
-    // Whether the steps came, and none waited in vain.
+    // Whether as many steps came as are to be held, and none of them waited in vain.
     fn was_held(&self) -> bool {
         self.come.load(Ordering::SeqCst) >= self.held && !self.is_worn.load(Ordering::SeqCst)
     }
@@ -109,7 +109,7 @@ impl Object for MeetingTally<'_> {
         Tally.format(mem)
     }
 
-    // a caller asks this before it submits
+    // a caller asks whether an operation only reads before it submits it
     fn reads(&self, op: &OpWords) -> bool {
         if op[0] == LATE {
             self.meeting.wait(self.meeting.held, 0);
@@ -174,7 +174,7 @@ fn is_right<R: Threads + Sync>(rt: &R, alloc: Global, row: &Row) -> Result<bool,
     Ok(is_alone && meeting.was_held())
 }
 
-// The first row that is not.
+// The first row whose steps were not held, or whose callers were told something else than the object alone replies.
 fn first_wrong<R: Threads + Sync>(
     rt: &R,
     alloc: Global,

@@ -25,7 +25,7 @@ const LINES: u64 = 16_384;
 // The most blocks that are taken.
 const BLOCKS: usize = 200_000;
 
-// Takes blocks of `bytes` bytes, none of which is written, until there is none.
+// Takes blocks of `bytes` bytes, to none of which it writes, until no further block can be had.
 fn take_all(alloc: Global, bytes: usize, blocks: &mut Vec<Vec<u8>>) {
     for _ in 0..BLOCKS {
         let Ok(block) = Vec::with_capacity(alloc, bytes) else {
@@ -62,7 +62,7 @@ fn kept<O: Object>(
     }
 }
 
-// Closes it then, with memory.
+// Closes a service that was handed back, once there is memory again.
 fn closed_again<O: Object>(
     alloc: Global,
     service: Service<O>,
@@ -120,7 +120,7 @@ fn fault(alloc: Global, limits: &[u64; 2], base: &Base) -> Option<StartFault>
     Service::start(alloc, DocStore::of(LINES), 2, limits, base).err()
 }
 
-// The same without memory.
+// What starting a service from a base is refused for while there is no memory. `None` where it starts.
 fn fault_without(
     alloc: Global,
     limits: &[u64; 2],

@@ -6,7 +6,7 @@ ghost use Rattle.cx_service.specs.Closes.{seat_of};
 ghost use Rattle.mutation_queue.specs.Tests.{IsPairOf};
 ghost use Rattle.recovery.specs.Kept.{IsOpened};
 ghost use Rattle.service_tests.specs.Closed.{IsClosed};
-ghost use Rattle.service_tests.specs.Tests.{IsBack, IsOf};
+ghost use Rattle.service_tests.specs.Tests.{IsHandedBack, IsHandedCaller};
 
 use crate::calls::{Call, UPDATE_TWICE, asked_between};
 use crate::starts::{NO_LIMIT, two};
@@ -18,7 +18,7 @@ use cx_service::{Caller, Handed, Service};
 use cx_table::Remains;
 use std::alloc::{AllocError, Global};
 
-/// Caller 0, or caller 1 for any other number, asks for operations until it asked for this many.
+/// A turn: the caller, which is caller 1 for any number but 0, and how many operations it has asked for in all when the turn ends.
 pub(crate) type Turn = (u32, u64);
 
 /// What two callers were told, of caller 0 first, and what their service left when it was closed.
@@ -68,7 +68,7 @@ fn pair_closed<O: Object>(
     }
 }
 
-// A turn of one of two callers, whose list has what it was told.
+// One of two callers makes a turn, and what it is told is put at the end of its list: `one` of caller 0, `other` of caller 1. Both callers are returned.
 fn attempt_made<O: Object>(
     service: &Service<O>,
     pair: Pair,
@@ -77,10 +77,10 @@ fn attempt_made<O: Object>(
     one: &mut Vec<Call>,
     other: &mut Vec<Call>,
 ) -> Pair
-    requires first { IsOf service.now pair.first }
-    requires second { IsOf service.now pair.second }
-    ensures first { IsBack service.now (seat_of pair.first) result.first }
-    ensures second { IsBack service.now (seat_of pair.second) result.second }
+    requires first { IsHandedCaller service.now pair.first }
+    requires second { IsHandedCaller service.now pair.second }
+    ensures first { IsHandedBack service.now (seat_of pair.first) result.first }
+    ensures second { IsHandedBack service.now (seat_of pair.second) result.second }
 {
     let (number, to) = *turn;
     let Pair { first, second } = pair;
@@ -95,7 +95,7 @@ fn attempt_made<O: Object>(
     }
 }
 
-// Their turns, one after another.
+// Two callers make turns, one turn after another, and both callers are returned.
 fn turns_made<O: Object>(
     service: &Service<O>,
     pair: Pair,
@@ -104,10 +104,10 @@ fn turns_made<O: Object>(
     one: &mut Vec<Call>,
     other: &mut Vec<Call>,
 ) -> Pair
-    requires first { IsOf service.now pair.first }
-    requires second { IsOf service.now pair.second }
-    ensures first { IsBack service.now (seat_of pair.first) result.first }
-    ensures second { IsBack service.now (seat_of pair.second) result.second }
+    requires first { IsHandedCaller service.now pair.first }
+    requires second { IsHandedCaller service.now pair.second }
+    ensures first { IsHandedBack service.now (seat_of pair.first) result.first }
+    ensures second { IsHandedBack service.now (seat_of pair.second) result.second }
 {
     let mut pair = pair;
     for turn in turns {

@@ -1,4 +1,5 @@
-//! Callers on one thread: what is answered before a call begins stands before it, and callers catch up with places that others told.
+//! Callers on one thread: an answer that is given before a call begins stands before that call's answer, and callers catch up with places that other
+//! callers were told.
 
 ghost use Rattle.std.specs.Prelude.{IfSome};
 ghost use Rattle.cx_service.specs.Callers.{IsCallerOf};
@@ -12,7 +13,7 @@ use cx_service::{Caller, CaughtUp, Driven, ReadTried, Service, Submitted};
 use std::alloc::{AllocError, Global};
 use std::test::Fail;
 
-// Where an answer stands, the place behind it, and the sum that it tells.
+// Where an answer stands, the place behind it, and the sum in its reply.
 #[derive(Clone, Copy)]
 struct Stood {
     at: u64,
@@ -39,7 +40,7 @@ fn added(service: &Service<Tally>, caller: Caller) -> Option<(Caller, Stood)>
     }
 }
 
-// A caller reads the sum beside the queue.
+// A caller reads the sum beside the queue. `None`: it was not answered.
 fn summed(service: &Service<Tally>, caller: Caller) -> Option<(Caller, Stood)>
     requires { IsCallerOf service.now caller }
     ensures { IfSome result (λ r. IsCallerOf service.now r.0) }
@@ -58,7 +59,7 @@ fn summed(service: &Service<Tally>, caller: Caller) -> Option<(Caller, Stood)>
     }
 }
 
-// A caller does either.
+// A caller reads the sum, or adds 1 where `reads` is false.
 fn called(service: &Service<Tally>, caller: Caller, reads: bool) -> Option<(Caller, Stood)>
     requires { IsCallerOf service.now caller }
     ensures { IfSome result (λ r. IsCallerOf service.now r.0) }
@@ -110,7 +111,7 @@ fn stand_in_turn(
     true
 }
 
-// The four kinds of pairs.
+// For each of two callers whether it reads: the four kinds of pairs.
 const KINDS: [(bool, bool); 4] = [(false, false), (false, true), (true, false), (true, true)];
 
 // The first kind of pairs in which an answer does not stand behind the one before it.
@@ -171,7 +172,7 @@ fn stops(service: &Service<Tally>, caller: Caller, limit: u64) -> bool
     }
 }
 
-// The first limit at which it is not so.
+// The first limit at which a caller that catches up with place 0 neither stops at its limit below two steps nor has caught up by two steps.
 fn first_wrong_limit(alloc: Global) -> Result<Option<u64>, AllocError> {
     for limit in 0..4 {
         let base = base_at(alloc, 0)?;

@@ -25,21 +25,22 @@ const WORK: Work = Work::Blocks { count: 1, wider: 1 };
 // Caller 1 falls behind and stops in its second update, and then caller 0 makes one more.
 const STOPS: [Turn; 5] = [(0, 2), (1, 1), (0, 18), (1, 2), (0, 19)];
 
-// The same without that update of caller 1.
+// The turns of `STOPS` without the second update of caller 1.
 const LINKS_NONE: [Turn; 4] = [(0, 2), (1, 1), (0, 18), (0, 19)];
 
-// What comes before it, with it and without it.
+// The turns of `STOPS` up to the second update of caller 1.
 const LAST: [Turn; 4] = [(0, 2), (1, 1), (0, 18), (1, 2)];
 
+// The turns of `LAST` without the second update of caller 1.
 const BEFORE: [Turn; 3] = [(0, 2), (1, 1), (0, 18)];
 
-// One ticket more comes before it.
+// The turns of `LAST`, where caller 0 makes one update more before the second update of caller 1.
 const LATER: [Turn; 4] = [(0, 2), (1, 1), (0, 19), (1, 2)];
 
 // The words of a slot of the ring of gaps: a copy by lines has this many more loads for one more ticket.
 const SLOT: u64 = 16;
 
-// What two callers without a limit are told, and the object alone.
+// What two callers without a limit of steps are told of their calls, and the object alone after the same updates.
 #[derive(Drop)]
 struct Model {
     logs: Vec<Vec<Call>>,
@@ -56,7 +57,7 @@ fn make_model(alloc: Global, turns: &[Turn]) -> Result<Option<Model>, AllocError
     )
 }
 
-// The model where caller 1 links no second entry, and where it does.
+// `none`: the model where caller 1 links no second entry. `linked`: the model where it links one.
 #[derive(Drop)]
 struct Models {
     none: Model,
@@ -73,7 +74,7 @@ fn make_both(alloc: Global, none: &[Turn], linked: &[Turn]) -> Result<Option<Mod
     })
 }
 
-// Caller 1's steps before its second update and after it.
+// How many steps caller 1 has made after its first update, and how many after its second. `None` where its log has not two calls.
 fn ends_of(logs: &[Vec<Call>]) -> Option<(u64, u64)> {
     match logs.last()?.as_slice() {
         [first, second] => Some((first.steps, second.steps)),
@@ -81,7 +82,8 @@ fn ends_of(logs: &[Vec<Call>]) -> Option<(u64, u64)> {
     }
 }
 
-// The same where one ticket more takes as many steps more as a slot of the ring has words, so that the copy is by lines.
+// How many steps caller 1 has made before its second update, and how many after it. `None` where the update does not copy by lines: where one ticket
+// more before it does not take as many steps more as a slot of the ring of gaps has words.
 fn ends(alloc: Global) -> Result<Option<(u64, u64)>, AllocError> {
     let ended = run_pair(alloc, DocStore::of(LINES), NO_LIMIT, WORK, &LAST)?;
     let later = run_pair(alloc, DocStore::of(LINES), NO_LIMIT, WORK, &LATER)?;
@@ -103,7 +105,7 @@ fn model_of<'a>(models: &'a Models, last: &Call, limit: u64, after: u64) -> Opti
     }
 }
 
-// Whether updates are answered as others are.
+// Whether one log has as many calls as another, and each is an update that is answered at the other's ticket with the other's reply.
 fn are_answered_as(log: &[Call], want: &[Call]) -> bool {
     if log.len() != want.len() {
         return false;
@@ -135,7 +137,7 @@ fn goes_on(models: &Models, ended: &Ended, limit: u64, after: u64) -> bool {
     }
 }
 
-// The first limit within caller 1's second update at which it is otherwise.
+// The first limit within caller 1's second update at which caller 0 does not go on as in the model, and 0 where there are no models.
 fn first_stuck(alloc: Global, step: usize) -> Result<Option<u64>, AllocError>
     requires { 1 ≤ step }
 {
@@ -154,9 +156,12 @@ fn first_stuck(alloc: Global, step: usize) -> Result<Option<u64>, AllocError>
     Ok(None)
 }
 
+// What the loss of power leaves of a dirty word: its durable value by choice 0, its volatile value by choice 1, and by another choice a value that is
+// computed from the choice and the word's address.
 const CHOICES: [u64; 3] = [0, 1, 0x9e37_79b9_7f4a_7c15];
 
-// Whether a base is the region of the model after its place: that without caller 1's second entry, where this was not answered, or with it.
+// Whether a base is the region of one of the two models, by its place. It may be that of the model without caller 1's second entry only where this entry
+// was not answered.
 fn is_prefix(models: &Models, base: &Base, answered: bool) -> bool {
     let words = base.words.as_slice();
     let none = &models.none;
@@ -168,7 +173,7 @@ fn is_prefix(models: &Models, base: &Base, answered: bool) -> bool {
     }
 }
 
-// Whether that is so of what is recovered by each choice.
+// Whether each base that is recovered by a choice of what the crash keeps is the region of one of the two models.
 fn are_prefixes<O: Object>(
     alloc: Global,
     object: &O,
@@ -187,7 +192,8 @@ fn are_prefixes<O: Object>(
     Ok(true)
 }
 
-// Whether some word is dirty in a service that is closed where caller 1 stopped at a limit. `None`: something else is recovered.
+// Whether a service that is closed after caller 1 stopped at a limit leaves a dirty word. `None`: by some choice a base is recovered that is the region
+// of neither model.
 fn dirty_at(alloc: Global, models: &Models, limit: u64) -> Result<Option<bool>, AllocError> {
     let object = DocStore::of(LINES);
     let ended = run_pair(alloc, DocStore::of(LINES), limit, WORK, &LAST)?;
@@ -202,12 +208,13 @@ fn dirty_at(alloc: Global, models: &Models, limit: u64) -> Result<Option<bool>, 
     })
 }
 
-// What caller 1 was told of its last call.
+// What the last caller was told of its last call. Of two callers that is caller 1.
 fn last_of(logs: &[Vec<Call>]) -> Option<&Call> {
     logs.last()?.last()
 }
 
-// At how many limits within caller 1's second update some word is dirty. `None`: at one of them something else is recovered.
+// At how many limits within caller 1's second update the closed service leaves a dirty word. `None`: at one of them a base is recovered that is the
+// region of neither model.
 fn dirty_limits(alloc: Global, step: usize) -> Result<Option<u64>, AllocError>
     requires { 1 ≤ step }
 {

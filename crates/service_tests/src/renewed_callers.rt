@@ -1,4 +1,4 @@
-//! A caller that fell behind the ring of cells renews its replica by the lines that changed, where the ring of gaps tells them, and else whole.
+//! A caller that fell behind the ring of cells renews its replica by the lines that changed, where the ring of gaps has them, and otherwise copies all.
 
 ghost use Rattle.std.specs.Prelude.{◌≤◌, IfSome};
 ghost use Rattle.cx_service.specs.Callers.{IsCallerOf};
@@ -7,15 +7,17 @@ use crate::holds::holds;
 use crate::starts::{all_started, two};
 use crate::tasks::words_of;
 use cx_base::Object;
+use cx_core::{HEAD_LINES, LINE_WORDS};
 use cx_service::{Caller, Driven, Service, Submitted};
 use doc_store::DocStore;
 use std::alloc::{AllocError, Global};
 use std::test::Fail;
 
-// The steps of a copy of all lines of an object of 4,096, at least: a load of each word of both replicas.
-const WHOLE: u64 = 16 * (146 + 4096);
+// The fewest steps of a copy of all lines of an object of 4,096 lines: a load of each word of both replicas.
+const WHOLE: u64 = 2 * LINE_WORDS * (HEAD_LINES + 4096);
 
-// A caller makes an update, with one try of each call, and the reply goes into the words given. `None`: it was not linked, or not answered.
+// A caller makes an update by one submit and one drive, each of one try, and is returned; the reply is written to `into`. `None`: the entry was not
+// linked, or not answered.
 fn updated<O: Object>(
     service: &Service<O>,
     caller: Caller,
@@ -34,7 +36,7 @@ fn updated<O: Object>(
     }
 }
 
-// A caller makes this many updates, by turns of two operations.
+// A caller makes `count` updates, of the two operations in turn, and is returned. `None`: one of them was not answered.
 fn many<O: Object>(
     service: &Service<O>,
     caller: Caller,
@@ -53,7 +55,7 @@ fn many<O: Object>(
     Some(caller)
 }
 
-// The steps of an update of the second caller after this many of the first one.
+// The steps of an update of the second caller after `count` updates of the first one. The reply is written to `into`.
 fn behind_by<O: Object>(
     service: &Service<O>,
     first: Caller,
@@ -71,12 +73,12 @@ fn behind_by<O: Object>(
     Some(second.steps().saturating_sub(before))
 }
 
-// The operations: a document is put under one of two keys, whatever stands there.
+// Two operations, each of which puts a document under a key of its own, whatever stands there.
 fn puts() -> [[u64; 144]; 2] {
     [words_of(1, b"a", b"1", 0), words_of(1, b"b", b"22", 0)]
 }
 
-// The same of two callers of a new document store.
+// The steps of an update of the second caller of a new document store of `lines` lines, after `count` updates of the first caller.
 fn behind(
     alloc: Global,
     lines: u64,
@@ -95,7 +97,8 @@ fn behind(
     })
 }
 
-// The same update where no caller is behind, since the first one makes all of them: whether it was answered.
+// One caller makes `count` updates and the one behind them, so no caller falls behind. Returns whether all were answered; the last reply is written to
+// `into`.
 fn all_by<O: Object>(
     service: &Service<O>,
     first: Caller,
@@ -111,7 +114,7 @@ fn all_by<O: Object>(
     }
 }
 
-// The same of a new document store.
+// One caller of a new document store makes `count` updates and the one behind them. Returns whether all were answered.
 fn alone(alloc: Global, count: u64, into: &mut [u64; 144]) -> Result<bool, AllocError> {
     let Ok((service, callers)) = all_started(alloc, DocStore::of(64), 2) else {
         return Err(AllocError);
@@ -123,7 +126,8 @@ fn alone(alloc: Global, count: u64, into: &mut [u64; 144]) -> Result<bool, Alloc
     })
 }
 
-// Whether an update behind `count` tickets has the right reply, and a whole copy was made for it or not.
+// Whether the second caller's update behind `count` updates of the first one has the reply that it has where one caller makes all updates, and whether
+// a whole copy was made for it is as `is_whole` says.
 fn is_right(alloc: Global, lines: u64, count: u64, is_whole: bool) -> Result<bool, AllocError>
     requires { 64 ≤ lines × lines ≤ 16384 }
 {

@@ -17,7 +17,7 @@ use recovery::{Outcome, outcome, reopen};
 use std::alloc::{AllocError, Global};
 use std::test::Fail;
 
-// A medium of one caller and 64 lines: two regions of 210 lines, whose words are these, and 0 elsewhere.
+// A medium of one caller and an object of 64 lines: two regions of 210 lines, with the words of `pairs` at their places, and 0 elsewhere.
 fn medium_of(alloc: Global, pairs: &[(u64, u64)]) -> Result<Medium, AllocError>
     ensures { IfOk result (HasReplicas 1 64) }
 {
@@ -48,7 +48,7 @@ impl Root {
         }
     }
 
-    // A code that names it.
+    // A root code that names this region.
     fn code(self) -> u64 {
         match self {
             Root::First => 0,
@@ -56,7 +56,7 @@ impl Root {
         }
     }
 
-    // Its words in an image.
+    // The words of this region in an image.
     fn of(self, image: &[u64]) -> &[u64] {
         let words = match self {
             Root::First => image.get(..1680),
@@ -66,7 +66,7 @@ impl Root {
     }
 }
 
-// Whether both regions have the same words, none dirty, and no line of the root's was stored to.
+// Whether both regions have the same words, no word is dirty, and no line of the region that the root names was stored to.
 fn is_level(medium: &Medium, root: Root) -> bool
     requires { HasReplicas 1 64 medium.now }
 {
@@ -83,7 +83,7 @@ fn is_level(medium: &Medium, root: Root) -> bool
     true
 }
 
-// The second region at place 1, whose store has the document 1 under the key a, beside an empty first one.
+// Address and word: the second region is at place 1, and its store has the document 1 under the key a. The first region is empty.
 const DOCUMENT: [(u64, u64); 14] = [
     (1680, 1),
     (1688, 1),
@@ -124,7 +124,7 @@ fn scattered(alloc: Global) -> Result<Medium, AllocError>
     Ok(medium)
 }
 
-// Whether a loss of power leaves the root's region as it is wanted, by four choices.
+// Whether a loss of power leaves the words `want` in the region that the root names, by each of four choices.
 fn stands(medium: &Medium, root: Root, image: &mut [u64], want: &[u64]) -> bool
     requires medium { HasReplicas 1 64 medium.now }
     requires image { length image.old ≡ 3360 }
@@ -169,8 +169,8 @@ fn reopen_one(medium: &mut Medium, root: u64)
     reopen(medium, 1, 64, root);
 }
 
-// Stores to a line what differs in that of the root's region. Gives the number of stores, and nothing where after one of them a loss of
-// power would not leave the root's region as it is wanted.
+// Stores to a line each word in which it differs from that line of the root's region. Returns the number of stores. `None`: after one of them a loss of
+// power would not leave the words `want` in the root's region.
 fn line_stores(
     medium: &mut Medium,
     root: Root,
@@ -199,7 +199,8 @@ fn line_stores(
     Some(stores)
 }
 
-// Makes a line that of the root's region, as `reopen` does. Gives the number of its steps.
+// Makes a line equal to that line of the root's region and writes it back, as `reopen` does. Returns the number of steps. `None`: after one of them a loss
+// of power would not leave the words `want` in the root's region.
 fn line_steps(
     medium: &mut Medium,
     root: Root,
@@ -224,7 +225,8 @@ fn line_steps(
     Some(stores.wrapping_add(1))
 }
 
-// The same of all lines, and then a fence.
+// Makes all lines of both regions equal to those of the root's region, and then makes a fence. Returns the number of steps. `None`: after one of them a
+// loss of power would not leave the words `want` in the root's region.
 fn all_steps(medium: &mut Medium, root: Root, image: &mut [u64], want: &[u64]) -> Option<u64>
     requires medium { HasReplicas 1 64 medium.old }
     requires image { length image.old ≡ 3360 }
@@ -242,7 +244,7 @@ fn all_steps(medium: &mut Medium, root: Root, image: &mut [u64], want: &[u64]) -
     Some(steps.wrapping_add(1))
 }
 
-// Whether two media have the same words and marks, and were as often stored to.
+// Whether two media have the same words, the same dirty marks, and as many stores to each line.
 fn are_same(a: &Medium, b: &Medium) -> bool
     requires a { HasReplicas 1 64 a.now }
     requires b { HasReplicas 1 64 b.now }
@@ -273,7 +275,8 @@ fn root_words(
     Vec::from_slice(alloc, root.of(image))
 }
 
-// Whether there are `steps` steps, a crash at each of them leaves the root's region, and `reopen` makes what they make.
+// Whether a scattered medium is made ready by `steps` steps, a loss of power after each of them leaves the root's region, and `reopen` makes the same
+// medium.
 fn stands_at_each_step(
     alloc: Global,
     root: Root,
@@ -292,7 +295,7 @@ fn stands_at_each_step(
     Ok(is_level(&medium, root) && are_same(&medium, &walked))
 }
 
-// The same with an image of its own.
+// Whether a scattered medium is made ready by `steps` steps, after each of which a loss of power leaves the root's region.
 fn all_stands(alloc: Global, root: Root, steps: u64) -> Result<bool, AllocError> {
     let mut image = vec![in alloc; 0; 3360]?;
     stands_at_each_step(alloc, root, &mut image, steps)
@@ -300,17 +303,17 @@ fn all_stands(alloc: Global, root: Root, steps: u64) -> Result<bool, AllocError>
 
 #[test]
 fn a_loss_of_power_at_each_step_leaves_the_roots_region(rt: HostRuntime) -> Result<(), Fail> {
-    // 896 words that differ, in 168 lines, and the fence
+    // 896 stores of words that differ, a write back of each of their 168 lines, and the fence
     for root in [Root::First, Root::Second] {
         holds(&rt, all_stands(rt.alloc(), root, 1065)?);
     }
     Ok(())
 }
 
-// What a base says of a caller: the number and word 0 of the reply, and nothing where no entry was applied.
+// What a base has of a caller's last entry: its number and word 0 of its reply. `None` where no entry of the caller was applied.
 type Said = Option<(u64, u64)>;
 
-// Whether a base says that.
+// Whether a base has of a caller's last entry what is wanted.
 fn says(base: &Base, caller: u32, want: Said) -> bool
     requires base { LawfulBase 64 IsTally base.now }
     requires caller { caller < 8 }
@@ -324,7 +327,7 @@ fn says(base: &Base, caller: u32, want: Said) -> bool
     }
 }
 
-// The base after a part is played from one, and power lost.
+// The base that is recovered after a service opened from `base`, a part was asked for, and power was lost.
 fn base_after(alloc: Global, base: &Base, part: Part) -> Result<Base, AllocError>
     requires { LawfulBase 64 IsTally base.now }
     ensures { IfOk result (LawfulBase 64 IsTally) }
@@ -336,7 +339,7 @@ fn base_after(alloc: Global, base: &Base, part: Part) -> Result<Base, AllocError
     }
 }
 
-// A life of one part from what is kept of the one before, and what the base after it says of callers 0 and 1.
+// A life of one part, which opens from what is kept of the life before, and what the base after it has of callers 0 and 1.
 type Row = (Part, Said, Said);
 
 // Caller 0 adds 0 twice and is answered 0, then it has no entry in two lives.
@@ -391,7 +394,7 @@ const LIVES: [Row; 4] = [
     ),
 ];
 
-// The first life after which a base says something else; of caller 7, which has no entry, each says that.
+// The first life after which the base has something else of callers 0 and 1 than the row says, or an entry of caller 7, which makes none.
 fn first_wrong(alloc: Global, lives: &[Row]) -> Result<Option<usize>, AllocError> {
     let mut base = base_at(alloc, 0)?;
     if !says(&base, 0, None) || !says(&base, 1, None) {

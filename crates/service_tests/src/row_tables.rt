@@ -6,7 +6,7 @@ use life_records::{JournalLine, StopLine, flag_stops, is_kept};
 use std::alloc::{AllocError, Global};
 use std::test::Fail;
 
-// A journal from a place on, of these clients and their commands.
+// A journal whose entries stand at the tickets from `place` on, each with its client and the number of its command in `of`.
 fn journal(
     alloc: Global,
     place: u64,
@@ -26,10 +26,12 @@ fn journal(
     Ok(lines)
 }
 
+// The entries of the journal in the order of their tickets: client, number of the command.
 const ENTRIES: [(u32, u64); 5] = [(0, 1), (1, 1), (0, 3), (2, 2), (1, 2)];
 
-// Place, entries kept, client, command, whether its entry is kept.
+// The place of the journal's first entry, how many entries are kept, a client, the number of its command, and whether the entry of that command is kept.
 const KEPT: [(u64, u64, u32, u64, bool); 18] = [
+    // an entry is kept where its place in `ENTRIES`, counted from 0, is below the number of entries kept
     (7, 0, 0, 1, false),
     (7, 1, 0, 1, true),
     (7, 1, 1, 1, false),
@@ -48,11 +50,12 @@ const KEPT: [(u64, u64, u32, u64, bool); 18] = [
     (u64::MAX - 4, u64::MAX, 1, 2, true),
     (u64::MAX - 4, 4, 1, 2, false),
     (u64::MAX - 4, 5, 1, 2, true),
+    // the journal begins at ticket 0
     (0, 5, 1, 2, true),
     (0, 0, 0, 1, false),
 ];
 
-// The first row that is otherwise.
+// The first row for which `is_kept` returns another answer.
 fn first_wrong(
     alloc: Global,
     rows: &[(u64, u64, u32, u64, bool)],
@@ -83,7 +86,7 @@ fn stop(client: u32, command: u64, kept: bool) -> StopLine {
     }
 }
 
-// The stop lines of the three clients with these flags.
+// The stop lines of clients 0 to 2, the `kept` of each as `flags` has it.
 fn stops(flags: &[bool; 3]) -> [StopLine; 3] {
     [
         stop(0, 3, flags[0]),
@@ -92,14 +95,15 @@ fn stops(flags: &[bool; 3]) -> [StopLine; 3] {
     ]
 }
 
-// Whether the stops of a life that kept `kept` entries get these flags, whatever flag they had.
+// Whether the stop lines of a life that kept `kept` entries, whose flags all were `before`, have these flags after `flag_stops`.
 fn are_flagged(journal: &[JournalLine<Reply>], kept: u64, flags: &[bool; 3], before: bool) -> bool {
     let mut lines = stops(&[before; 3]);
     flag_stops(journal, 20, kept, &mut lines);
     lines == stops(flags)
 }
 
-// Entries kept, and the flags of the three clients' stops.
+// How many entries of `ENTRIES` are kept, and the flags of the stop lines of clients 0 to 2. The stopped commands of clients 0, 1 and 2
+// are the third, the fifth and the fourth entry.
 const FLAGS: [(u64, [bool; 3]); 5] = [
     (0, [false, false, false]),
     (2, [false, false, false]),

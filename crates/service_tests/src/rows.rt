@@ -11,7 +11,7 @@ use doc_store::DocStore;
 use std::alloc::{AllocError, Global};
 use std::test::Fail;
 
-// A reader with two steps, and then another's update.
+// Caller 0 reads the sum, and then caller 1 makes an update that adds 5.
 const READER: [Part; 2] = [
     (0, Work::Sum, READ),
     (
@@ -24,7 +24,7 @@ const READER: [Part; 2] = [
     ),
 ];
 
-// Whether a reader is stopped after two steps, and the other caller answered in one turn.
+// Whether caller 0 is stopped after two steps of its read, and the update of caller 1 is answered at ticket 0 with the sum 5.
 fn is_reader_stopped(log: &[Call]) -> bool {
     match log {
         [reader, other] => {
@@ -47,16 +47,17 @@ fn a_stopped_reader_blocks_nobody(rt: HostRuntime) -> Result<(), Fail> {
 // What a caller alone is told.
 #[derive(Clone, Copy)]
 enum Want {
-    // each operation is answered, the first at ticket 0, and each adds an amount
+    // this many updates, each of which adds the amount, are answered at the tickets from 0 on
     Sums(u64, usize),
-    // each is answered, the first at ticket 0
+    // this many updates are answered at the tickets from 0 on
     Answers(usize),
-    // no ticket is left, and the front is this
+    // the only call finds no further ticket, and the caller's front is this
     Worn(u64),
 }
 
 // From which place on the service opens, what the caller asks for, and what it is told.
 const ALONE: [(u64, Work, Way, Want); 3] = [
+    // 64 updates are more than the 16 cells of a caller
     (
         0,
         Work::Adds {
@@ -66,8 +67,9 @@ const ALONE: [(u64, Work, Way, Want); 3] = [
         UPDATE,
         Want::Sums(3, 64),
     ),
-    // cells are given again
+    // the cells of updates that are answered are given to later ones
     (0, Work::Rising(64), UPDATE, Want::Answers(64)),
+    // the tickets end at 2^40, so none is left
     (
         1 << 40,
         Work::Adds {
@@ -79,6 +81,7 @@ const ALONE: [(u64, Work, Way, Want); 3] = [
     ),
 ];
 
+// Whether the log of a caller alone is as wanted.
 fn is_as_wanted(log: &[Call], want: Want) -> bool {
     match want {
         Want::Sums(amount, count) => log.len() == count && adds_up(log, 0, 0, amount),
@@ -110,7 +113,7 @@ fn is_worn(log: &[Call], front: u64) -> bool {
     }
 }
 
-// The first caller alone that is answered otherwise.
+// The first row whose caller is told something else than the row says.
 fn first_wrong(
     alloc: Global,
     rows: &[(u64, Work, Way, Want)],

@@ -18,7 +18,7 @@ use std::alloc::{AllocError, Global};
 
 pub(crate) const NO_LIMIT: u64 = u64::MAX;
 
-/// The first base of Tally at another place, which is none after 2^40.
+/// The first base of the running sum, with its place changed to `place`. No base has a place above 2^40.
 pub(crate) fn base_at(alloc: Global, place: u64) -> Result<Base, AllocError>
     ensures { IfOk result (LawfulBase 64 IsTally) }
 {
@@ -52,7 +52,7 @@ pub(crate) fn one_started<O: Object>(
     }
 }
 
-// The item of a list of one.
+// The only caller of a list. `None` where the list has none, or more than one.
 fn one(mut callers: Vec<Caller>) -> Option<Caller>
     ensures { IfSome result (λ c. callers.items ≡ c ∷ []) }
 {
@@ -64,7 +64,7 @@ fn one(mut callers: Vec<Caller>) -> Option<Caller>
     }
 }
 
-/// A service of two callers.
+/// A service of two callers with these limits of steps, which opens from a base, and its callers.
 pub(crate) fn two_started(
     alloc: Global,
     limits: &[u64; 2],
@@ -85,7 +85,7 @@ pub(crate) fn two_started(
     }
 }
 
-/// The items of a list of two.
+/// The two callers of a list, in their order. `None` where the list has not just two.
 pub(crate) fn two(mut callers: Vec<Caller>) -> Option<(Caller, Caller)>
     ensures { IfSome result (λ r. callers.items ≡ r.0 ∷ r.1 ∷ []) }
 {

@@ -10,10 +10,11 @@ use cx_table::Remains;
 use std::alloc::{AllocError, Global};
 use std::test::Fail;
 
-// The steps by which an operation is linked of which each word is written.
+// The steps by which an entry is linked where each word of its operation is written.
 const STEPS_TO_LINK: u64 = 148;
 
-// Another caller makes 16 updates that add 1. Where an entry was linked before, its front is at that ticket, so it takes two submits.
+// Caller 1 makes 16 updates that add 1. Where caller 0 linked an entry before, the front of caller 1 is at the ticket of that entry, so caller 1 needs two
+// submits.
 const OTHER: Part = (
     1,
     Work::Adds {
@@ -27,13 +28,15 @@ const OTHER: Part = (
     },
 );
 
-// What caller 0 asks for with a limit of steps before the other: whether each word of it is written and it adds 1000; the limit below which
-// it is answered, and that from which on it is.
+// What caller 0 asks for with a limit of steps, and then caller 1.
 #[derive(Clone, Copy)]
 struct Row {
     parts: [Part; 2],
+    // whether caller 0 links an entry, which adds 1000
     links: bool,
+    // caller 0 is answered at some limit below this one
     most: u64,
+    // the first limit at which caller 0 is answered is not below this one
     above: u64,
 }
 
@@ -52,14 +55,14 @@ const ROWS: [Row; 2] = [
     },
 ];
 
-// Whether each update of the other is answered, at the tickets after `linked` entries that add 1000, and the published codes rise.
+// Whether the 16 updates of caller 1 are answered at the tickets after `linked` entries that add 1000 each, and the published codes rise.
 fn goes_on(others: &[Call], remains: &Remains, linked: u64) -> bool {
     others.len() == 16
         && adds_up(others, linked, linked.wrapping_mul(1000), 1)
         && has_rising_codes(remains)
 }
 
-// Whether caller 0 was answered at a limit. `None`: the other did not go on.
+// Whether caller 0 was answered with a limit of steps. `None`: caller 1's updates were not all answered as they are to be.
 fn is_answered(alloc: Global, row: &Row, limit: u64) -> Result<Option<bool>, AllocError> {
     let played = played(alloc, 0, &[limit, NO_LIMIT], &row.parts)?;
     let linked = u64::from(row.links && limit >= STEPS_TO_LINK);
@@ -71,7 +74,7 @@ fn is_answered(alloc: Global, row: &Row, limit: u64) -> Result<Option<bool>, All
     })
 }
 
-// Whether the other goes on at each limit up to that at which caller 0 is answered.
+// Whether caller 1 goes on at each limit up to the first at which caller 0 is answered, and this one is within the row's bounds.
 fn is_right(alloc: Global, row: &Row) -> Result<bool, AllocError> {
     for limit in 0..row.most {
         match is_answered(alloc, row, limit)? {
@@ -83,7 +86,7 @@ fn is_right(alloc: Global, row: &Row) -> Result<bool, AllocError> {
     Ok(false)
 }
 
-// The first operation where it is otherwise.
+// The first row in which caller 1 does not go on at some limit, or the first limit at which caller 0 is answered is out of bounds.
 fn first_wrong(alloc: Global, rows: &[Row]) -> Result<Option<usize>, AllocError> {
     for (i, row) in rows.iter().enumerate() {
         if !is_right(alloc, row)? {
@@ -99,6 +102,7 @@ fn a_caller_stops_at_each_step(rt: HostRuntime) -> Result<(), Fail> {
     Ok(())
 }
 
+// Caller 0 makes one update that adds 1000, and each word of its operation is written.
 const UPDATE_ALONE: [Part; 1] = [(0, Work::Filled(1000), UPDATE)];
 
 // What a caller that makes an update with a limit of steps is left with, and the place of the durable root then.
@@ -108,7 +112,7 @@ enum Left {
     Stopped { linked: Option<u64>, durable: u64 },
 }
 
-// A caller makes an update with a limit of steps. `None`: it is neither answered nor stopped.
+// What caller 0 is left with after its update with a limit of steps. `None`: it is neither answered nor stopped.
 fn left_at(alloc: Global, limit: u64) -> Result<Option<Left>, AllocError> {
     let played = played(alloc, 0, &[limit, NO_LIMIT], &UPDATE_ALONE)?;
     let durable = durable_place(&played.remains);

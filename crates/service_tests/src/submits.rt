@@ -17,10 +17,10 @@ use std::sync::Wait;
 use std::test::Fail;
 use std::thread::{Threads, join};
 
-// The steps by which an operation is linked of which each word is written: a load of CUR, the words of the cell, a look and a link.
+// The steps by which an entry is linked where each word of its operation is written: a load of CUR, the words of the cell, a look and a link.
 const STEPS_TO_LINK: u64 = 148;
 
-// Whether an entry is linked at this ticket.
+// Whether a call linked its entry at `ticket`.
 fn is_linked(call: &Call, ticket: u64) -> bool {
     match call.came {
         Came::Linked(at) => at == ticket,
@@ -28,14 +28,14 @@ fn is_linked(call: &Call, ticket: u64) -> bool {
     }
 }
 
-// The second caller's front is at a ticket that the first one linked, so it submits twice.
+// Both callers submit. The front of caller 1 is at the ticket that caller 0 linked, so caller 1 submits twice.
 const IN_ORDER: [Part; 3] = [
     (0, Work::Filled(5), SUBMIT),
     (1, Work::Filled(7), SUBMIT),
     (1, Work::Filled(7), SUBMIT),
 ];
 
-// Whether two callers linked so, the first by `STEPS_TO_LINK` steps: later the words stand, and the number alone is written.
+// Whether caller 0 linked at ticket 0 by `STEPS_TO_LINK` steps, and caller 1 found that link by its first submit and linked at ticket 1 by its second.
 fn are_linked(log: &[Call]) -> bool {
     match log {
         [one, again, other] => {
@@ -48,7 +48,7 @@ fn are_linked(log: &[Call]) -> bool {
     }
 }
 
-// Whether a service of two callers was closed that opened at place 0.
+// Whether what was left is of a service of two callers and 64 lines that opened at place 0.
 fn is_closed(remains: &Remains) -> bool {
     remains.callers == 2 && remains.lines == 64 && remains.first == 0
 }
@@ -61,7 +61,7 @@ fn two_callers_link_one_after_the_other(rt: HostRuntime) -> Result<(), Fail> {
     Ok(())
 }
 
-// What two callers are told that submit on threads of their own.
+// Two callers submit, each on a thread of its own: what each is told.
 fn on_two_threads<R: Threads + Sync>(rt: &R, alloc: Global) -> Result<(Call, Call), AllocError> {
     let base = base_at(alloc, 0)?;
     let (service, first, second) = two_started(alloc, &[NO_LIMIT, NO_LIMIT], &base)?;
@@ -84,9 +84,10 @@ fn two_threads_submit(rt: HostRuntime) -> Result<(), Fail> {
     Ok(())
 }
 
+// Caller 0 submits one update.
 const ONE: [Part; 1] = [(0, Work::Filled(5), SUBMIT_TWICE)];
 
-// Whether a caller with a limit of steps is halted, or links with that limit or a greater one.
+// Whether the only call was halted at its limit of steps where this is below `STEPS_TO_LINK`, and otherwise linked at ticket 0 by just so many steps.
 fn is_halted_or_linked(log: &[Call], limit: u64) -> bool {
     match log {
         [call] if limit < STEPS_TO_LINK => call.is_halted(None) && call.steps == limit,
@@ -95,7 +96,7 @@ fn is_halted_or_linked(log: &[Call], limit: u64) -> bool {
     }
 }
 
-// The first limit at which it is otherwise.
+// The first limit of steps at which caller 0 is neither halted below `STEPS_TO_LINK` nor linked from there on.
 fn first_wrong(alloc: Global) -> Result<Option<u64>, AllocError> {
     for limit in 0..150u64 {
         let played = played(alloc, 0, &[limit, NO_LIMIT], &ONE)?;
@@ -112,12 +113,13 @@ fn each_limit_halts_until_the_link(rt: HostRuntime) -> Result<(), Fail> {
     Ok(())
 }
 
+// Both callers submit one update, where one ticket is left.
 const AT_THE_END: [Part; 2] = [
     (0, Work::Filled(5), SUBMIT_TWICE),
     (1, Work::Filled(7), SUBMIT_TWICE),
 ];
 
-// Whether the last ticket is the first caller's.
+// Whether caller 0 linked at the last ticket, and caller 1 was told that there is none left.
 fn is_last_ticket_taken(log: &[Call]) -> bool {
     match log {
         [one, other] => is_linked(one, (1 << 40) - 1) && matches!(other.came, Came::Worn(_)),
@@ -137,7 +139,8 @@ fn no_ticket_is_left(rt: HostRuntime) -> Result<(), Fail> {
     Ok(())
 }
 
-// A caller makes up to `times` updates, and is told that it is full: the note.
+// A caller makes up to `times` updates: the note that it is given once none of its cells is free. `None`: all updates are answered, or one is not
+// answered for another reason.
 fn note_within<R: Wait>(
     rt: &R,
     service: &Service<Tally>,
@@ -158,7 +161,7 @@ fn note_within<R: Wait>(
     None
 }
 
-// What caller 1 is told of an update with a limit of steps, and then caller 0 of 40 updates.
+// Caller 1 makes an update with a limit of steps, and then caller 0 makes up to 40: what caller 1 is told, and the note that caller 0 is given.
 fn with_limit<R: Wait>(
     rt: &R,
     alloc: Global,
@@ -170,8 +173,8 @@ fn with_limit<R: Wait>(
     Ok((call, note_within(rt, &service, first, 40)))
 }
 
-// How many of the limits from the link on, by some of which it is stopped while it reads its entry, let caller 1 keep the cells of
-// caller 0. `None`: it was not stopped, or caller 0 was told something else.
+// At how many of the 20 limits from the link on the stopped caller 1 keeps the cells of caller 0: by some of them it is stopped while it reads its entry.
+// `None`: at one of the limits caller 1 was not stopped, or caller 0 was given another note.
 fn kept_at<R: Wait>(rt: &R, alloc: Global) -> Result<Option<u64>, AllocError> {
     let mut kept = 0u64;
     for limit in 148..168u64 {

@@ -5,7 +5,7 @@ ghost use Rattle.cx_base.specs.Tally.{IsTally};
 ghost use Rattle.cx_core.specs.Base.{LawfulBase};
 ghost use Rattle.cx_service.specs.Closes.{seat_of};
 ghost use Rattle.service_tests.specs.Closed.{IsClosedTally};
-ghost use Rattle.service_tests.specs.Tests.{IsBack, IsOf};
+ghost use Rattle.service_tests.specs.Tests.{IsHandedBack, IsHandedCaller};
 
 use crate::calls::{Call, Way, all_asked};
 use crate::starts::{base_at, one_started, two_closed, two_started};
@@ -16,7 +16,7 @@ use cx_service::{Handed, Service};
 use cx_table::Remains;
 use std::alloc::{AllocError, Global};
 
-/// Caller 0, or caller 1 for any other number, asks for operations in this way.
+/// A part: the caller, which is caller 1 for any number but 0, the operations that it asks for, and the way in which it calls.
 pub(crate) type Part = (u32, Work, Way);
 
 /// What callers were told, in the order of their calls, and what their service left when it was closed.
@@ -26,7 +26,8 @@ pub(crate) struct Outcome {
     pub(crate) remains: Remains,
 }
 
-/// A service of two callers with limits of steps, which opens from the first base at a place, and is closed.
+/// A service of two callers with limits of steps, which opens from the first base at a place, and is closed
+/// once the callers have asked for their parts.
 pub(crate) fn played(
     alloc: Global,
     place: u64,
@@ -39,7 +40,7 @@ pub(crate) fn played(
     played_from(alloc, &base, limits, parts)
 }
 
-/// The same from a base.
+/// A service of two callers with limits of steps, which opens from a base, and is closed once the callers have asked for their parts.
 pub(crate) fn played_from(
     alloc: Global,
     base: &Base,
@@ -62,19 +63,19 @@ pub(crate) fn played_from(
     }
 }
 
-/// Two callers.
+/// The two callers of a service, as their last calls handed them back.
 #[derive(Drop)]
 pub(crate) struct Pair {
     pub(crate) first: Handed,
     pub(crate) second: Handed,
 }
 
-// One of two callers asks for its operations.
+// One of two callers asks for the operations of a part, and both callers are returned.
 fn part_asked(service: &Service<Tally>, pair: Pair, part: &Part, log: &mut Vec<Call>) -> Pair
-    requires first { IsOf service.now pair.first }
-    requires second { IsOf service.now pair.second }
-    ensures first { IsBack service.now (seat_of pair.first) result.first }
-    ensures second { IsBack service.now (seat_of pair.second) result.second }
+    requires first { IsHandedCaller service.now pair.first }
+    requires second { IsHandedCaller service.now pair.second }
+    ensures first { IsHandedBack service.now (seat_of pair.first) result.first }
+    ensures second { IsHandedBack service.now (seat_of pair.second) result.second }
 {
     let (number, work, way) = *part;
     let Pair { first, second } = pair;
@@ -87,12 +88,12 @@ fn part_asked(service: &Service<Tally>, pair: Pair, part: &Part, log: &mut Vec<C
     }
 }
 
-// The parts of two callers, one after another.
+// Two callers ask for the operations of the parts, one part after another, and both callers are returned.
 fn parts_asked(service: &Service<Tally>, pair: Pair, parts: &[Part], log: &mut Vec<Call>) -> Pair
-    requires first { IsOf service.now pair.first }
-    requires second { IsOf service.now pair.second }
-    ensures first { IsBack service.now (seat_of pair.first) result.first }
-    ensures second { IsBack service.now (seat_of pair.second) result.second }
+    requires first { IsHandedCaller service.now pair.first }
+    requires second { IsHandedCaller service.now pair.second }
+    ensures first { IsHandedBack service.now (seat_of pair.first) result.first }
+    ensures second { IsHandedBack service.now (seat_of pair.second) result.second }
 {
     let mut pair = pair;
     for part in parts {
@@ -101,7 +102,7 @@ fn parts_asked(service: &Service<Tally>, pair: Pair, parts: &[Part], log: &mut V
     pair
 }
 
-/// What the caller of a service of one is told, which opens from the first base at a place.
+/// What the only caller of a service is told of its calls, where the service opens from the first base at a place.
 pub(crate) fn played_alone(
     alloc: Global,
     place: u64,
@@ -115,8 +116,8 @@ pub(crate) fn played_alone(
     Ok(log)
 }
 
-/// Whether updates that add an amount are answered, each at the next ticket from this one on, and with the sum after it, which was this
-/// before.
+/// Whether updates that add `amount` are answered one after another at the tickets from `from` on, each with the sum after it, where the sum is `sum`
+/// before the first.
 pub(crate) fn adds_up(log: &[Call], from: u64, sum: u64, amount: u64) -> bool {
     let mut ticket = from;
     let mut total = sum;

@@ -1,6 +1,6 @@
 //! What the callers ask for.
 
-/// The number that an update adds whose step may be held.
+/// What an update adds whose step may be held.
 pub(crate) const HELD: u64 = 1_000_000;
 
 /// The number that an update adds which comes late.

@@ -4,7 +4,7 @@ ghost use Rattle.std.specs.Prelude.{◌≡◌, ◌<◌, ℕ, All, IfOk, map, sli
 ghost use Rattle.cx_table.specs.Remains.{AreSeats};
 ghost use Rattle.cx_service.specs.Callers.{IsCallerOf};
 ghost use Rattle.cx_service.specs.Closes.{seat_of, seats_of};
-ghost use Rattle.service_tests.specs.Tests.{IsBack};
+ghost use Rattle.service_tests.specs.Tests.{IsHandedBack};
 
 use crate::alone::made_alone;
 use crate::calls::{Call, Way, all_asked};
@@ -27,7 +27,7 @@ const UNTIL_ANSWERED: Way = Way {
     beside: true,
 };
 
-// A caller after its calls, and what it was told.
+// A caller after its calls, and what it was told of each.
 #[derive(Drop)]
 struct Worked {
     caller: Handed,
@@ -37,7 +37,7 @@ struct Worked {
 // A caller asks for its operations.
 fn make_calls<O: Object>(alloc: Global, service: &Service<O>, caller: Caller, work: Work) -> Worked
     requires { IsCallerOf service.now caller }
-    ensures { IsBack service.now caller result.caller }
+    ensures { IsHandedBack service.now caller result.caller }
 {
     let mut log = Vec::new(alloc);
     let idle = Handed::Idle(caller);
@@ -55,19 +55,19 @@ fn each_works<O: Object + Send + Sync, R: Threads + Sync>(
 ) -> Result<Vec<Worked>, AllocError>
     requires { All (IsCallerOf service.now) callers.items }
     ensures long { IfOk result (λ v. vec_len v ≡ vec_len callers) }
-    ensures each { IfOk result (λ v. (i : ℕ) (d : _) (e : _) → i < vec_len callers → IsBack service.now (slice_index_or callers.items i d) (slice_index_or v.items i e).caller) }
+    ensures each { IfOk result (λ v. (i : ℕ) (d : _) (e : _) → i < vec_len callers → IsHandedBack service.now (slice_index_or callers.items i d) (slice_index_or v.items i e).caller) }
 {
     map_vec(
         rt,
         callers,
         &|caller: Caller| -> Worked
             requires { IsCallerOf service.now caller }
-            ensures { IsBack service.entry.now caller result.caller }
+            ensures { IsHandedBack service.entry.now caller result.caller }
         { make_calls(alloc, service, caller, work) },
     )
 }
 
-// The same of all the callers of a service.
+// All the callers of a service ask for their operations, each on a thread of its own, and all of them come back.
 fn all_work<O: Object + Send + Sync, R: Threads + Sync>(
     rt: &R,
     alloc: Global,
@@ -83,7 +83,7 @@ fn all_work<O: Object + Send + Sync, R: Threads + Sync>(
     Ok(all)
 }
 
-// Takes what callers did apart.
+// Returns the callers, and puts the log of each at the end of `logs`.
 fn parted(
     alloc: Global,
     all: Vec<Worked>,
@@ -109,7 +109,7 @@ pub(crate) struct Ran {
     pub(crate) remains: Remains,
 }
 
-/// The fewest entries of others that one of these callers applied by their write sets: 0 where one is in a call, or stopped.
+/// The fewest entries of others that one of the callers applied by their write sets, and 0 where a caller is in a call or stopped.
 pub(crate) fn fewest_taken(callers: &[Handed]) -> u64 {
     let mut fewest = u64::MAX;
     for handed in callers {
@@ -163,7 +163,7 @@ pub(crate) fn run_on_threads<O: Object + Send + Sync, R: Threads + Sync>(
     }
 }
 
-/// The number of callers, what they ask for, and how many updates and reads that is in all.
+/// The number of callers, what they ask for, and how many updates and how many reads beside the queue they make in all.
 pub(crate) type Row = (u32, Work, u64, u64);
 
 // How many reads were answered beside the queue.
@@ -185,7 +185,8 @@ fn reads_in(log: &[Call]) -> u64 {
     count
 }
 
-/// Whether the object alone replies the same, the region published last is the object's after the updates, and the published codes rise.
+/// Whether the object alone gives each caller the reply that it was told, as many updates and reads were made as the row says, the region published last
+/// is the object's after the updates, and the published codes rise.
 pub(crate) fn is_as_alone<O: Object>(
     alloc: Global,
     ran: &Ran,
@@ -204,7 +205,7 @@ pub(crate) fn is_as_alone<O: Object>(
     })
 }
 
-// Whether an object on threads is as another of its kind alone.
+// Whether the callers of a row, on threads of their own over `object`, are told what the same object alone replies.
 fn is_shared<O: Object + Send + Sync, R: Threads + Sync>(
     rt: &R,
     alloc: Global,
@@ -217,7 +218,7 @@ fn is_shared<O: Object + Send + Sync, R: Threads + Sync>(
     is_as_alone(alloc, &ran, alone, row)
 }
 
-// Whether that is so of the object that a row's operations are of.
+// Whether the callers of a row are told what the object alone replies. The object is the one that the row's operations are of.
 fn is_right<R: Threads + Sync>(rt: &R, alloc: Global, row: &Row) -> Result<bool, AllocError> {
     match row.1 {
         Work::Documents => is_shared(rt, alloc, DocStore::of(64), &DocStore::of(64), row),
@@ -229,7 +230,7 @@ fn is_right<R: Threads + Sync>(rt: &R, alloc: Global, row: &Row) -> Result<bool,
     }
 }
 
-// The first row where it is not.
+// The first row whose callers are told something else than the object alone replies.
 fn first_wrong<R: Threads + Sync>(
     rt: &R,
     alloc: Global,
@@ -244,13 +245,14 @@ fn first_wrong<R: Threads + Sync>(
 }
 
 const ROWS: [Row; 7] = [
+    // each caller makes 24 updates and 6 reads
     (2, Work::Sums, 48, 12),
     (4, Work::Sums, 96, 24),
     (8, Work::Sums, 192, 48),
     (2, Work::Documents, 48, 12),
     (4, Work::Documents, 96, 24),
     (8, Work::Documents, 192, 48),
-    // readers beside updaters
+    // two callers make 24 updates and 6 reads each, and the two others 30 reads each
     (4, Work::Apart, 48, 72),
 ];
 

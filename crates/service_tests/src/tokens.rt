@@ -17,13 +17,14 @@ use std::sync::Wait;
 use std::test::Fail;
 use std::thread::Threads;
 
-// How often a place is handed over.
+// How many places are sent over the channel.
 const TIMES: u64 = 10_000;
 
-// What is handed over where no further place is.
+// What is sent over the channel once no further place is sent.
 const NO_PLACE: u64 = u64::MAX;
 
-// Caller 0 adds, and hands over the place behind each addition. Caller 1 catches up with each and reads. Each tells how often all was as it is to be.
+// Caller 0 adds, and hands over the place behind each addition. Caller 1 catches up with each and reads. Each returns how
+// often all was right.
 #[derive(Drop)]
 struct Pair {
     sender: Sender<u64, Global>,
@@ -44,7 +45,7 @@ impl Worker<Tally> for Pair {
     }
 }
 
-// Adds 1 again and again, and hands each place over.
+// Adds 1 `TIMES` times, and sends the place behind each addition; at the end it sends `NO_PLACE`. Returns how often all was right.
 fn write_all<R: Wait>(
     rt: &R,
     service: &Service<Tally>,
@@ -74,7 +75,8 @@ fn write_all<R: Wait>(
     Worked { caller, output }
 }
 
-// Adds 1 and hands the place behind it over: whether all was right. Places are counted from 0, so the place behind an addition is the sum.
+// Adds 1 and sends the place behind the addition. Returns whether the place was sent and the reply is that place: places are counted from 0, so the place
+// behind an addition is the sum.
 fn write_once<R: Wait>(
     rt: &R,
     service: &Service<Tally>,
@@ -95,7 +97,7 @@ fn write_once<R: Wait>(
     }
 }
 
-// Catches up with each place that is handed over, and reads.
+// Catches up with each place that is received, and reads the sum. Returns how often all was right.
 fn read_all<R: Wait>(
     rt: &R,
     service: &Service<Tally>,
@@ -129,7 +131,7 @@ fn read_all<R: Wait>(
     Worked { caller, output }
 }
 
-// Catches up with a place and reads the sum, which is not below it: whether all was right.
+// Catches up with a place and reads the sum. Returns whether the read stands at that place or above it, and the sum is the place of the read.
 fn read_once<R: Wait>(
     rt: &R,
     service: &Service<Tally>,

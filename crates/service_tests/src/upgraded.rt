@@ -10,7 +10,7 @@ use crate::starts::one_started;
 use crate::sum_formats::LaterTally;
 use crate::tasks::{adds, words_of};
 use crate::written::{DOCUMENT, Written, image_of};
-use cx_core::{Base, slot_start};
+use cx_core::{Base, OBJECT_START, slot_start};
 use cx_service::{Caller, Handed, Service};
 use doc_store::DocStore;
 use recovery::{ImageFault, recover};
@@ -20,22 +20,28 @@ use std::test::Fail;
 // What is recovered: the place, the number in the slot of caller 0, and the first three words of the object part; or why it is refused.
 type Wanted = Result<(u64, u64, (u64, u64, u64)), ImageFault>;
 
-// Whether a base is that.
+// The first word of the object part, which is the version.
+const VERSION_AT: usize = OBJECT_START as usize;
+
+// The slot of caller 0: the number of its last entry, and behind it the reply.
+const FIRST_SLOT: usize = 8;
+
+// Whether a base has the place, the number and the three words that are wanted.
 fn is_base(base: &Base, want: Wanted) -> bool {
     let words = base.words.as_slice();
     match want {
         Ok((place, number, (version, first, second))) => {
             base.place == place
-                && words.get(8).copied() == Some(number)
-                && words.get(1168).copied() == Some(version)
-                && words.get(1169).copied() == Some(first)
-                && words.get(1170).copied() == Some(second)
+                && words.get(FIRST_SLOT).copied() == Some(number)
+                && words.get(VERSION_AT).copied() == Some(version)
+                && words.get(VERSION_AT + 1).copied() == Some(first)
+                && words.get(VERSION_AT + 2).copied() == Some(second)
         }
         Err(_) => false,
     }
 }
 
-// Whether that is recovered from an image.
+// Whether the later format of the running sum recovers from an image what is wanted.
 fn is_recovered(alloc: Global, written: &Written, want: Wanted) -> Result<bool, AllocError> {
     let image = image_of(alloc, written)?;
     Ok(match recover(alloc, &LaterTally, &image) {
@@ -54,7 +60,8 @@ fn first_wrong(alloc: Global, rows: &[(Written, Wanted)]) -> Result<Option<usize
     Ok(None)
 }
 
-// Replica 1 at place 1 in the old version: caller 0's first update added 5.
+// Replica 1 at place 1 in the old version: caller 0's first update added 5. Its region begins at word 1680, caller 0's slot at 1688, the object part at
+// 2848.
 const OLD: Written = (
     1,
     3360,
@@ -62,22 +69,24 @@ const OLD: Written = (
     &[(1680, 1), (1688, 1), (1689, 5), (2848, 7), (2849, 5)],
 );
 
+// Images of one caller, whose two regions have 1,680 words each. The version stands in word 1168 of the first region, and in word 2848 of the second.
 const IMAGES: [(Written, Wanted); 8] = [
-    // of the old version: nothing was done yet, and a sum
+    // two images of the old version 7: nothing was done yet, and one update added 5; the sum moves to word 2
     ((1, 3360, 0, &[(1168, 7)]), Ok((0, 0, (8, 0, 0)))),
     (OLD, Ok((1, 1, (8, 0, 5)))),
-    // of the object's own, which stays as it is, and beside it the old one
+    // the root names a region of the new version 8, which stays as it is; the other region is of the old version
     (
         (1, 3360, 0, &[(1168, 8), (1169, 4), (1170, 6), (2848, 7)]),
         Ok((0, 0, (8, 4, 6))),
     ),
-    // of none
+    // two images in which the region that the root names has neither the old version nor the new one
     (
         (1, 3360, 0, &[(1168, 6), (2848, 7)]),
         Err(ImageFault::Version { found: 6 }),
     ),
     ((1, 3360, 0, &[]), Err(ImageFault::Version { found: 0 })),
-    // of the old version at another place, with a word behind the place, and with a part that is not lawful
+    // three images of the old version: the region has another place than the root, a word behind the place is not 0, and word 2 of the object part, which
+    // the old version does not use, is not 0
     (
         (1, 3360, 2, &[(1168, 7), (1170, 9)]),
         Err(ImageFault::Place { root: 1, region: 0 }),
@@ -92,7 +101,7 @@ fn old_images_are_upgraded(rt: HostRuntime) -> Result<(), Fail> {
     Ok(())
 }
 
-// Whether no number of a slot is above the place.
+// Whether no slot of a base has a number above the base's place.
 fn has_numbers_within(base: &Base) -> bool
     ensures { IsTrue result → NumbersWithin base.now }
 {
@@ -125,10 +134,10 @@ fn a_service_goes_on_from_an_old_image(rt: HostRuntime) -> Result<(), Fail> {
     Ok(())
 }
 
-// Documents of version 1: replica 1 at place 1.
+// An image of a document store in its old version 1: replica 1 at place 1 has one document.
 const OLD_DOCUMENT: Written = (1, 3360, 3, &DOCUMENT);
 
-// A command on the key a: its kind, its document and its number, and the ticket, kind and number of the reply.
+// A command on the key a: its kind, its document and its number; and of its answer the ticket, and the kind and the number of the reply.
 type Answered = (u64, &'static str, u64, (u64, u64, u64));
 
 // A pair of an old image has revision 1, so a put on condition of none is stale, and one on condition of 1 gives 2.
@@ -155,7 +164,7 @@ fn first_other(service: &Service<DocStore>, caller: Caller, rows: &[Answered]) -
     None
 }
 
-// Whether a service of documents that opens from what is recovered of an image answers so.
+// Whether a service of documents that opens from what is recovered of an image answers each command as its row says.
 fn documents_go_on(
     alloc: Global,
     written: &Written,

@@ -6,7 +6,7 @@ ghost use Rattle.recovery.specs.Images.{IsReadable, RiseFrom};
 use crate::holds::holds;
 use cx_base::tally::Tally;
 use cx_base::{Items, Object};
-use cx_core::Base;
+use cx_core::{Base, OBJECT_START};
 use doc_store::DocStore;
 use recovery::{Image, ImageFault, recover};
 use std::alloc::{AllocError, Global};
@@ -29,7 +29,8 @@ fn rise_below(pairs: &[(u64, u64)], end: u64) -> bool
 // An image of an object of 64 lines, as it is written down: its callers, its number of words, its root, and its pairs.
 pub(crate) type Written = (u32, u64, u64, &'static [(u64, u64)]);
 
-// That image. `Err` means out of memory, or what may not be read.
+// The image that is written down. `Err`: memory runs out, the number of callers is not 1 to 8, or the addresses of the pairs do not rise below the number
+// of words.
 pub(crate) fn image_of(alloc: Global, written: &Written) -> Result<Image, AllocError>
     ensures { IfOk result (IsReadable 64) }
 {
@@ -50,20 +51,26 @@ pub(crate) fn image_of(alloc: Global, written: &Written) -> Result<Image, AllocE
 // What is recovered: the place, the number in the slot of caller 0, and word 1 of the object part; or why it is refused.
 type Wanted = Result<(u64, u64, u64), ImageFault>;
 
-// Whether a base is that.
+// The slot of caller 0: the number of its last entry, and behind it the reply.
+const FIRST_SLOT: usize = 8;
+
+// Word 1 of the object part.
+const FIRST_WORD: usize = OBJECT_START as usize + 1;
+
+// Whether a base has the place, the number and the word that are wanted.
 fn is_base(base: &Base, want: Wanted) -> bool {
     let words = base.words.as_slice();
     match want {
         Ok((place, number, word)) => {
             base.place == place
-                && words.get(8).copied() == Some(number)
-                && words.get(1169).copied() == Some(word)
+                && words.get(FIRST_SLOT).copied() == Some(number)
+                && words.get(FIRST_WORD).copied() == Some(word)
         }
         Err(_) => false,
     }
 }
 
-// Whether an image is refused so.
+// Whether a refusal with this fault is what is wanted.
 fn is_refused(fault: ImageFault, want: Wanted) -> bool {
     match want {
         Ok(_) => false,
@@ -71,7 +78,7 @@ fn is_refused(fault: ImageFault, want: Wanted) -> bool {
     }
 }
 
-// Whether an object recovers that from an image.
+// Whether an object recovers from an image what is wanted.
 fn is_recovered<O: Object>(
     alloc: Global,
     object: &O,
@@ -87,7 +94,7 @@ fn is_recovered<O: Object>(
     })
 }
 
-// The first image from which it recovers something else.
+// The first row from whose image an object recovers something else than the row says.
 fn first_wrong<O: Object>(
     alloc: Global,
     object: &O,
@@ -103,12 +110,14 @@ fn first_wrong<O: Object>(
     Ok(None)
 }
 
-// The root of the greatest place that is allowed, on replica 0, and of the place above it.
+// The root of the greatest place that is allowed, 2^40, on replica 0.
 const LAST: u64 = 2 << 40;
 
+// The root of the place above the greatest one, on replica 0.
 const ABOVE: u64 = LAST + 2;
 
-// Images of the running sum. The two replicas of one caller have 3,360 words.
+// Images of the running sum. The two replicas of one caller have 3,360 words, and the second one begins at word 1680. In the first one word 0 is the place,
+// word 8 the number of caller 0, word 9 its reply, word 1168 the version and word 1169 the sum.
 const SUMS: [(Written, Wanted); 18] = [
     // nothing was done yet
     ((1, 3360, 0, &[(1168, 7)]), Ok((0, 0, 0))),
@@ -166,7 +175,7 @@ const SUMS: [(Written, Wanted); 18] = [
     ),
     // a number above the place, which recovery lets pass
     ((1, 3360, 0, &[(8, 4), (1168, 7)]), Ok((0, 4, 0))),
-    // refused by the first check
+    // each is refused by the first of these that is wrong: the number of words, the root, the version, the place, and the other words
     ((1, 3359, 0, &[]), Err(ImageFault::Size { found: 3359 })),
     ((1, 3361, ABOVE, &[]), Err(ImageFault::Size { found: 3361 })),
     (
@@ -190,8 +199,10 @@ const SUMS: [(Written, Wanted); 18] = [
         (1, 3360, 2, &[(1, 1), (1168, 7), (1680, 1), (2848, 7)]),
         Err(ImageFault::Place { root: 1, region: 0 }),
     ),
+    // a word behind the place is not 0
     ((1, 3360, 0, &[(1, 1), (1168, 7)]), Err(ImageFault::Body)),
     ((1, 3360, 0, &[(7, 1), (1168, 7)]), Err(ImageFault::Body)),
+    // a caller without an entry has a reply that is not 0: caller 0 in its first word, and caller 7 in its last
     ((1, 3360, 0, &[(9, 1), (1168, 7)]), Err(ImageFault::Body)),
     ((1, 3360, 0, &[(1167, 1), (1168, 7)]), Err(ImageFault::Body)),
 ];

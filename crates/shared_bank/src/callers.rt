@@ -12,25 +12,32 @@ use std::alloc::{AllocError, Global};
 use std::sync::Wait;
 use std::thread::Threads;
 
-/// The accounts, and what they have together. Each caller sees to 16 of them.
+/// The number of accounts.
 const ACCOUNTS: u64 = 64;
 
+/// How many accounts each of the four callers sees to. Its first steps pay out to them, one step to each account.
 const EACH: u64 = 16;
 
+/// What all accounts have together.
 const ALL: u64 = 64_000;
 
-/// How many answers of each kind there were: transfers, refused overdrafts, and audits that found what all have together.
+/// How many answers of each kind there were.
 #[derive(Clone, Copy, Debug)]
 pub struct CallCounts {
+    /// Transfers that were made.
     pub moved: u64,
+    /// Transfers that were refused as overdrafts.
     pub refused: u64,
+    /// Audits that found what all accounts have together.
     pub right: u64,
 }
 
-/// What a caller found that looked.
+/// What a caller found that looked at the bank.
 #[derive(Clone, Copy, Debug)]
 pub struct Found {
+    /// What account 0 has.
     pub first: u64,
+    /// What all accounts have together.
     pub all: u64,
 }
 
@@ -50,7 +57,7 @@ const NOTHING: CallCounts = CallCounts {
 };
 
 impl CallCounts {
-    /// With one answer more.
+    /// These counts with one answer more. Other replies are not counted.
     fn with(self, reply: Reply) -> CallCounts {
         match reply {
             Reply::Moved => CallCounts {
@@ -69,7 +76,7 @@ impl CallCounts {
         }
     }
 
-    /// Those of all callers.
+    /// The counts of all callers together, of which `each` has one for each caller.
     fn of_all(each: &[CallCounts]) -> CallCounts {
         let mut all = NOTHING;
         for one in each {
@@ -91,8 +98,8 @@ impl BankLife {
     }
 }
 
-/// Four callers work, the power is lost, and one caller looks; then the four go on from there, it is lost again, and one looks again. Of transfers
-/// that are there once each, the first finds 2,575 in account 0, and the second 4,150. `Err` means out of memory.
+/// Four callers work, the power is lost, and one caller looks at what is recovered. Then four callers work from there on, the power is lost again, and one
+/// caller looks again. Where each transfer was made once, the first look finds 2,575 in account 0, and the second 4,150. `Err` means out of memory.
 pub fn two_losses<R: Wait + Threads + Sync>(
     rt: &R,
     alloc: Global,
@@ -109,8 +116,8 @@ pub fn two_losses<R: Wait + Threads + Sync>(
     Ok((first, BankLife::of(&counts, &found)))
 }
 
-/// A caller's operations: first it pays out 1,000 to each of its accounts, of what account 0 began with. Then five times it moves 5 from each
-/// to account 0, tries an overdraft, and adds up all.
+/// Operation number `step` of caller `number`. The first 16 move 1,000 from account 0 to each of the caller's accounts. Then five times 18 follow: 16 move
+/// 5 from each of its accounts to account 0, one tries an overdraft, and one adds up all accounts.
 fn operation(number: u32, step: u64) -> Op {
     let own = EACH * number as u64;
     if step < EACH {
@@ -135,7 +142,7 @@ fn operation(number: u32, step: u64) -> Op {
     }
 }
 
-/// Callers that do their operations from one on, and tell how many answers of each kind there were.
+/// Callers that do their operations from number `from` on. Each returns how many answers of each kind there were.
 struct Mover {
     from: u64,
 }
@@ -174,7 +181,7 @@ impl Worker<Bank> for Mover {
     }
 }
 
-/// A caller that tells what account 0 has, and what all have.
+/// A caller that reads what account 0 has, and what all accounts have together, and returns both.
 struct Looker;
 
 impl Worker<Bank> for Looker {
@@ -200,7 +207,7 @@ impl Worker<Bank> for Looker {
     }
 }
 
-/// A caller asks for one operation: the value that it is answered, 0 where it is none.
+/// A caller asks for one operation. Returns the caller, and the value in the reply, or 0 where the reply has none or the operation is not answered.
 fn value<R: Wait>(rt: &R, service: &Service<Bank>, caller: Caller, op: Op) -> Worked<u64>
     requires { IsCallerOf service.now caller }
     ensures { IsHandedBy service.now caller result.caller }

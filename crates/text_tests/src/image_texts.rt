@@ -6,12 +6,13 @@ use image_text::{Image, image_text, read_image};
 use std::alloc::{AllocError, Global};
 use std::test::Fail;
 
-/// Callers, lines, the number of words, the root, and the pairs.
+/// The callers, the lines, the number of words, the root, and the pairs of an image.
 type Numbers = (u32, u64, u64, u64, &'static [(u64, u64)]);
 
-/// Images, and the texts with `|` between two that are read as each.
+/// An image, and the texts that are read as this image; a `|` stands between two texts.
 type ImageRow = (Numbers, &'static [u8]);
 
+/// The words that are not 0 of an image whose second region is at place 1 with the document 1 under the key a.
 const ONE_DOCUMENT: &[(u64, u64)] = &[
     (1680, 1),
     (1688, 1),
@@ -30,6 +31,7 @@ const ONE_DOCUMENT: &[(u64, u64)] = &[
 ];
 
 static IMAGES: [ImageRow; 5] = [
+    // the last line may lack its end, and lines may end with a carriage return and a line feed
     (
         (1, 64, 3360, 0, &[(1168, 1), (1171, 1)]),
         b"image 1 64 3360\nroot 0\n1168 1\n1171 1\n|image 1 64 3360\nroot 0\n1168 1\n1171 1|image 1 64 3360\r\nroot 0\r\n1168 1\n1171 1\r\n",
@@ -42,7 +44,7 @@ static IMAGES: [ImageRow; 5] = [
         (2, 64, 6720, 31, &[(5040, 6), (6208, 1)]),
         b"image 2 64 6720\nroot 31\n5040 6\n6208 1",
     ),
-    // the ends of all limits
+    // the greatest numbers of callers and of lines, and the greatest words
     (
         (
             8,
@@ -64,7 +66,7 @@ fn image_texts_are_read(rt: HostRuntime) {
     holds(&rt, first_other(rt.alloc(), &IMAGES).is_none());
 }
 
-/// The first row with a text that is read as something else.
+/// The first row with a text that is refused, or read as another image.
 fn first_other(alloc: Global, rows: &[ImageRow]) -> Option<usize> {
     for (i, (want, texts)) in rows.iter().enumerate() {
         for text in texts.split(|b| *b == b'|') {
@@ -76,6 +78,7 @@ fn first_other(alloc: Global, rows: &[ImageRow]) -> Option<usize> {
     None
 }
 
+/// Whether a text is read as the image `want`.
 fn is_read(alloc: Global, text: &[u8], want: &Numbers) -> bool {
     match read_image(alloc, text) {
         Ok(image) => is_image(&image, want),
@@ -91,7 +94,7 @@ fn is_image(image: &Image, want: &Numbers) -> bool {
         && image.pairs.as_slice() == want.4
 }
 
-/// Pairs of an image of one caller with root 7, and its text.
+/// The pairs of an image of one caller and 64 lines with root 7, and the text of the image. Words that are 0 are not written.
 type TextRow = (&'static [(u64, u64)], &'static [u8]);
 
 static TEXTS: [TextRow; 3] = [
@@ -119,6 +122,7 @@ fn first_unwritten(alloc: Global, rows: &[TextRow]) -> Result<Option<usize>, All
     Ok(None)
 }
 
+/// Whether the text of an image of one caller and 64 lines with root 7 and these pairs is `want`.
 fn is_written(alloc: Global, pairs: &[(u64, u64)], want: &[u8]) -> Result<bool, AllocError> {
     let image = Image {
         callers: 1,

@@ -8,6 +8,7 @@ use std::test::Fail;
 /// The client, the key and the amount of an addition.
 type Added = (u32, &'static [u8], i64);
 
+/// The commands of a load whose count begins at 1,997, of two clients with three commands each.
 const ADDITIONS: [Added; 6] = [
     (0, b"k97", 997),
     (0, b"k98", 4),

@@ -6,7 +6,7 @@ use doc_model::Reply;
 use doc_text::{FullLine, JournalLine, LifeRecord, ReadLine, StopLine};
 use std::alloc::{AllocError, Global};
 
-/// A reply.
+/// The reply to a command, as rows have it.
 #[derive(Clone, Copy)]
 pub(crate) enum Told {
     New,
@@ -25,16 +25,16 @@ pub(crate) enum Told {
     Revision(u64),
 }
 
-/// Ticket, client, command, and the reply, if there is one.
+/// A line of a journal: the ticket, the client, the number of its command, and the reply, if there is one.
 pub(crate) type JournalRow = (u64, u32, u64, Option<Told>);
 
-/// Command, place and reply of a read of client 0.
+/// A read of client 0: the number of its command, the place, and the reply.
 pub(crate) type ReadRow = (u64, u64, Told);
 
-/// Client, command, steps, and whether the command is kept.
+/// A client that was stopped: its number, the number of its command, its steps, and whether the command is kept.
 pub(crate) type StopRow = (u32, u64, u64, bool);
 
-/// Client, command, holder, need and ticket.
+/// A client that ran out of free cells: its number, the number of its command, and the holder, the need and the ticket of the note that it was given.
 pub(crate) type FullRow = (u32, u64, u32, u64, u64);
 
 /// A life: its clients and where it begins; its history and the reads; the clients that were stopped and those that ran out of free cells; and the

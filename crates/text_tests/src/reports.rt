@@ -8,7 +8,7 @@ use doc_text::{LifeRecord, Script, read_script, report};
 use std::alloc::{AllocError, Global};
 use std::test::Fail;
 
-/// A script, its lives and their report. A life has as many clients as is told of it.
+/// A script, the records of its lives, and their report. The script's lives are given as many clients as their records have.
 #[derive(Clone, Copy)]
 struct Worked {
     script: &'static [u8],
@@ -16,12 +16,14 @@ struct Worked {
     report: &'static [u8],
 }
 
+// A script without a life, whose report is empty.
 const NOTHING: Worked = Worked {
     script: b"lines 64\n",
     lives: &[],
     report: b"",
 };
 
+// A put of a new key, a put that replaces the document, and a read.
 const WRITTEN_AND_READ: Worked = Worked {
     script: b"\
 lines 64
@@ -46,6 +48,7 @@ power 0 kept 2 of 2 documents 1
 ",
 };
 
+// A read of a key that has no document.
 const EMPTY_STORE: Worked = Worked {
     script: b"\
 lines 64
@@ -60,6 +63,7 @@ power 0 kept 0 of 0 documents 0
 ",
 };
 
+// An addition to the greatest sum overflows.
 const END_OF_TYPE: Worked = Worked {
     script: b"\
 lines 64
@@ -87,6 +91,7 @@ power 0 kept 2 of 2 documents 1
 ",
 };
 
+// A document that is not a number cannot be added to, and a second deletion finds none.
 const COMPACT_TEXT: Worked = Worked {
     script: b"\
 lines 64
@@ -120,6 +125,7 @@ power 0 kept 4 of 4 documents 0
 ",
 };
 
+// The next key above each of some keys, and the number of documents.
 const KEYS_AND_COUNT: Worked = Worked {
     script: b"\
 lines 64
@@ -158,6 +164,7 @@ power 0 kept 2 of 2 documents 2
 ",
 };
 
+// Puts on condition of a revision, and the revisions of a document. They go on where a key is deleted and put again.
 const REVISIONS: Worked = Worked {
     script: b"\
 lines 64
@@ -199,6 +206,7 @@ power 0 kept 6 of 6 documents 1
 ",
 };
 
+// The entry of client 1 comes before that of client 0.
 const TWO_CLIENTS: Worked = Worked {
     script: b"\
 lines 64
@@ -221,6 +229,7 @@ power 0 kept 2 of 2 documents 1
 ",
 };
 
+// The second life begins with what the first one left.
 const TWO_LIVES: Worked = Worked {
     script: b"\
 lines 64
@@ -274,8 +283,7 @@ power 0 kept 0 of 0 documents 3
 ",
 };
 
-// A command with no room, and one whose client was stopped in it. A command that names a client outside the life is
-// no one's.
+// A put that finds no room, and an addition whose client was stopped in it. The life has one client, so the command of client 1 is not done.
 const WITHOUT_ROOM: Worked = Worked {
     script: b"\
 lines 64
@@ -321,7 +329,7 @@ life 2 power 0
                 &[],
             ),
             (2, 2, 1),
-        ), // One that was stopped before its first step.
+        ), // A client that was stopped before its first step.
         ((2, 2), &[], &[], (&[(1, 1, 0, false)], &[]), (0, 0, 1)),
     ],
     report: b"\
@@ -354,7 +362,7 @@ power 0 kept 0 of 0 documents 0
 ",
 };
 
-// Both, and two that ran out of free cells.
+// One client that was stopped, and two that ran out of free cells, since the one that was stopped keeps them in use.
 const STOPPED_AND_GAVE_UP: Worked = Worked {
     script: b"\
 lines 64

@@ -5,12 +5,14 @@ use doc_model::Op;
 use doc_text::{Command, Cut, Life, read_script};
 use std::alloc::Global;
 
-/// A letter for the operation's name, its key, its document, and its amount or revision. What it lacks is empty or 0.
+/// The parts of an operation: a letter for its name, its key, its document, and its amount or revision. A part that an operation lacks is empty or 0.
 type Parts = (u8, &'static [u8], &'static [u8], i128);
 
+/// A script of one life with operations of each kind.
 const OPERATIONS: &[u8] =
     b"lines 128\nlife 1 power 7\n0 put key -12\n0 add sum -3\n0 next\n0 next above\n0 count\n0 del k\n0 get other\n0 put a {\"b\":1, \"a\":[]}\n0 put a  [ 1 , -2 ]  \n0 put a {\"a\":1,\"a\":2}\n0 put a {\"b\":1,\"aa\":2,\"a\":3,\"\":4}\n0 put a \"\\u0041\\/\\n\\u0001\\u007f\"\n0 put a \"\\ud83d\\ude00\"\n0 put a 18446744073709551615\n0 put a\x20\ttrue\r\n0 putif key 18446744073709551615 [ 1 ]\n0 rev key";
 
+/// The parts of the operations of `OPERATIONS`, in their order.
 const PARTS: [Parts; 17] = [
     (b'p', b"key", b"-12", 0),
     (b'a', b"sum", b"", -3),
@@ -97,12 +99,14 @@ fn has_parts(op: &Op, want: &Parts) -> bool {
     }
 }
 
-/// Clients, choice, the client and the steps of each cut, and the number of commands.
+/// A life: its clients, its choice, the client and the steps of each cut, and the number of its commands.
 type LifeRow = (u32, u64, &'static [(u32, u64)], usize);
 
+/// A script of two lives, the first with two cuts.
 const CUTS: &[u8] =
     b"lines 64\nlife 3 power 0\ncut 2 7\ncut 0 18446744073709551615\nlife 1 power 9\n0 count\n";
 
+/// The lives of the script `CUTS`.
 const LIVES: [LifeRow; 2] = [(3, 0, &[(2, 7), (0, u64::MAX)], 0), (1, 9, &[], 1)];
 
 #[test]
@@ -139,7 +143,7 @@ fn are_cuts(cuts: &[Cut], wants: &[(u32, u64)]) -> bool {
     true
 }
 
-/// Texts, and the lines of the scripts that they are.
+/// A text, and the number of lines of the object that it sets as a script; 0 where it sets none.
 const LINES: [(&[u8], u64); 4] = [
     (b"", 0),
     (b"lines 64", 64),
@@ -155,7 +159,7 @@ fn lines_are_read(rt: HostRuntime) {
     holds(&rt, have_lines(rt.alloc(), &LINES));
 }
 
-/// Whether each text is a script of these lines.
+/// Whether each text is a script that sets the number of lines of its row.
 fn have_lines(alloc: Global, rows: &[(&[u8], u64)]) -> bool {
     for (text, lines) in rows {
         if !has_lines(alloc, text, *lines) {

@@ -7,15 +7,17 @@ use doc_text::{LifeRecord, summary};
 use std::alloc::{AllocError, Global};
 use std::test::Fail;
 
-/// The documents of the pairs that a life left, and its lines.
+/// The documents of the pairs that a life left, and the lines of its summary.
 type Row = (&'static [&'static [u8]], &'static [u8]);
 
 const ROWS: [Row; 4] = [
     (&[], b"clients 5\nupdates 0\ndocuments 0\nsum 0\n"),
+    // only integers are summed: 3 and -10
     (
         &[b"3", b"{}", b"\"4\"", b"-10"],
         b"clients 5\nupdates 0\ndocuments 4\nsum -7\n",
     ),
+    // sums beyond the integers of 64 bits with a sign
     (
         &[b"9223372036854775807", b"9223372036854775807"],
         b"clients 5\nupdates 0\ndocuments 2\nsum 18446744073709551614\n",
@@ -32,7 +34,7 @@ fn documents_that_are_integers_are_summed(rt: HostRuntime) -> Result<(), Fail> {
     Ok(())
 }
 
-/// The first row whose documents have other lines.
+/// The first row whose summary has other lines.
 fn first_wrong(alloc: Global, rows: &[Row]) -> Result<Option<usize>, AllocError> {
     for (i, (documents, lines)) in rows.iter().enumerate() {
         let pairs = pairs_of(alloc, documents)?;
@@ -43,7 +45,7 @@ fn first_wrong(alloc: Global, rows: &[Row]) -> Result<Option<usize>, AllocError>
     Ok(None)
 }
 
-/// Whether a life that left these pairs has these lines.
+/// Whether the summary of a life that left these pairs has these lines.
 fn has_lines(alloc: Global, pairs: &[Pair], lines: &[u8]) -> Result<bool, AllocError> {
     let told = LifeRecord {
         clients: 5,

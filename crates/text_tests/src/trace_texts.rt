@@ -4,7 +4,7 @@ use crate::holds::holds;
 use std::alloc::Global;
 use trace_text::read_trace;
 
-/// How many lines stand behind the first, and texts with `|` between two.
+/// How many steps a trace has, one a line behind the first, and texts of such traces; a `|` stands between two texts.
 type StepsRow = (usize, &'static [u8]);
 
 static TEXTS: [StepsRow; 4] = [
@@ -17,7 +17,7 @@ static TEXTS: [StepsRow; 4] = [
         1,
         b"trace 1 64\n0 raise 1 read get k|trace 1 64\n0 raise 1 read rev k|trace 1 64\n0 raise 1 read next|trace 1 64\n0 raise 1 read next k|trace 1 64\n0 raise 18446744073709551615 read count|trace 1 64\n0 load_word 0 0 refused",
     ),
-    // each kind
+    // each kind of step
     (
         30,
         b"trace 1 64\n0 write_cell 0 0 0\n0 link 0\n0 look 0\n0 read_cell 0 0 0\n0 load_free\n0 try_exclusive 0\n0 try_shared 0\n0 back_off 0\n0 downgrade 0\n0 release_exclusive 0\n0 load_word 0 0\n0 load_word 0 0 refused\n0 store_word 0 0 0\n0 persist 0 0\n0 load_cur\n0 publish\n0 raise 0\n0 retire\n0 protect 0\n0 confirm\n0 unprotect\n0 close_low 0\n0 scan 0\n0 open_free\n0 write_set 0 0 0\n0 offer 0\n0 load_offer 0 0\n0 read_set 0 0 0\n0 note_gap 0 0 0\n0 load_gap 0 0",
