@@ -6,7 +6,7 @@
 The history runs downwards along one line. Each client has a lane beside it. An entry stands at its ticket, and a read at its
 place: behind all entries with lower tickets. After a crash the entries that were not kept stand in a hatched band, and
 the next life goes on from the last one kept. A report of more than 30 commands, or of more than 24 clients, is drawn in columns and without
-texts, and says so; with --texts it has them. The picture is as wide as its texts, from 480 to 800, or as its lanes.
+texts, and says so; with --texts it has them. The picture is as wide as its texts, from 480 to 800, or as its lanes with the line of a crash beside them.
 
 Without -o the picture goes to standard output. It has a background of its own, so that it can be shown on a light page and on a dark one.
 
@@ -218,17 +218,19 @@ class Picture:
         return max(WIDTH, round(self.columns * self.column_width() - COLUMN_GAP) + 2 * MARGIN)
 
     def width_for_texts(self):
-        """As wide as the longest row and the legend want it, up to WIDTH, or to what leaves room for texts."""
+        """As wide as the longest row and the legend want it, up to WIDTH, or to what leaves room for texts and for the rows that are never shortened."""
         start = MARGIN + self.first_lane + self.look.lane * (self.clients - 1) + 20
-        ends = [start + width_of(power_words(row.item)) + 90 for row in self.rows if row.kind == "power"]
-        ends += [start + self.names + width_of(ended_words(row.item)) for row in self.rows if row.kind == "ended"]
+        whole = [start + width_of(power_words(row.item)) + 90 for row in self.rows if row.kind == "power"]
+        whole += [start + self.names + width_of(ended_words(row.item)) for row in self.rows if row.kind == "ended"]
+        most = max(WIDTH, round(start) + LEAST_TEXT, round(max(whole, default=0)) + MARGIN)
+        ends = list(whole)
         for row in self.rows:
             if row.kind in ("entry", "read"):
                 letters = sum(map(columns_of, row.item.rest)) + 1
                 ends.append(start + self.names + CODE_LETTER * (letters + (len(LOST) if row.lost else 0)))
         kinds = {kind_of(row) for row in self.rows}
         ends.append(MARGIN + sum(legend_width(words) for kind, words, _ in LEGEND if kind in kinds))
-        return min(max(WIDTH, round(start) + LEAST_TEXT), max(NARROWEST, round(max(ends)) + MARGIN))
+        return min(most, max(NARROWEST, round(max(ends)) + MARGIN))
 
     def put_rows(self):
         """Gives each row its place: one column with texts, and else as many as fit beside each other."""

@@ -321,7 +321,7 @@ class TwoJudges(unittest.TestCase):
 
 class WrongReports(unittest.TestCase):
     def test_one_thing_wrong(self):
-        self.assertGreaterEqual(len(WRONG), 40)
+        self.assertGreaterEqual(len(WRONG), 89)
         for name, old, new, line, why in WRONG:
             script, report = row(name)
             with self.subTest(f"{name}: {old!r} to {new!r}"):
@@ -605,7 +605,7 @@ class Program(unittest.TestCase):
 
     def test_other_words_are_refused_unread(self):
         refused = json.loads((ROWS / "words.json").read_text("utf-8"))["refused"]
-        self.assertGreaterEqual(len(refused), 38)
+        self.assertGreaterEqual(len(refused), 86)
         for words in refused:
             with self.subTest(words):
                 self.assertEqual((2, usage().encode(), 0), self.ran(words, HEAD))
@@ -619,7 +619,7 @@ class Program(unittest.TestCase):
 
     def test_scripts_of_a_queue(self):
         queues = json.loads((ROWS / "queues.json").read_text("utf-8"))
-        self.assertGreaterEqual(len(queues), 20)
+        self.assertGreaterEqual(len(queues), 22)
         _, shown = shown_in_documents()
         self.assertGreaterEqual(len(shown), 1)
         queues += [[script.decode(), 0, report.decode()] for script, report in shown]
@@ -629,7 +629,7 @@ class Program(unittest.TestCase):
 
     def test_scripts_of_clients_that_share_callers(self):
         rows = pool_rows()
-        self.assertGreaterEqual(len(rows), 20)
+        self.assertGreaterEqual(len(rows), 29)
         for seats, script, status, texts in rows:
             with self.subTest(script):
                 ended, written, read = self.ran(["pool", str(seats)], script.encode())

@@ -23,7 +23,7 @@ TYPE = re.compile(r"(?:(?:pub|unfoldable|abbrev) )*(?:record|data) ([^\s(){}:]+)
 MEMBER = re.compile(r"^ +(?:pub )?([^\s(){}:]+) : ", re.M)
 WHOLE = re.compile(r"\bRattle(?:\.[^\s(){}\[\];,.`]+)+")
 PATH = re.compile(r"\b(\w+)((?:::)(?:specs|proofs)(?:::[^\s(){}\[\];,.:`]+)+)")
-ANSWERS = ("Answers.antt", "Invariants.antt", "Proof.antt")
+ANSWERS = ("/Answers.antt", "/Invariants.antt", "/Proof.antt")
 
 
 class Part(NamedTuple):
@@ -58,8 +58,9 @@ def declarations_in(text):
         while depth < scopes[-1]:
             scopes.pop()
         if depth == scopes[-1]:
-            declared = None if OTHER.match(said) else DECLARED.match(said)
-            if declared or OTHER.match(said):
+            other = OTHER.match(said)
+            declared = None if other else DECLARED.match(said)
+            if declared or other:
                 starts.append((at, declared and (declared.group(2) or declared.group(3)), "pub " in (declared.group(1) if declared else "")))
             if said.startswith(("module _", "mutual")):
                 scopes.append(depth + 2)
@@ -148,8 +149,9 @@ class Files:
             if file:
                 if words[end] in file.declared:
                     return file, file.declared[words[end]]
-                for name, path in file.brought:
-                    found = self.meant(".".join([path, *words[end + 1 :]]), deep + 1) if name == words[end] and deep < 9 else None
+                # a name is handed on by few files; the limit ends the search where two files import it from one another
+                for name, target in file.brought:
+                    found = self.meant(".".join([target, *words[end + 1 :]]), deep + 1) if name == words[end] and deep < 9 else None
                     if found:
                         return found
         return None

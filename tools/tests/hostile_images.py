@@ -12,7 +12,6 @@ Example: hostile_images.py
 Status 0 where each was answered as docs/FORMATS.md and docs/TABLE_WORDS.md have it, 1 at the first that was not, 2 where the words are others.
 """
 import random
-import subprocess
 import sys
 from concurrent.futures import ThreadPoolExecutor
 from dataclasses import dataclass, field
@@ -23,10 +22,10 @@ sys.path[:0] = [str(TOOLS)]
 
 from commands import asked_words, needed
 from image_text import OLD_VERSION, PART, SLOT_WORDS, VERSION, BadImage, Image, image_text, read_image, recovered, recovered_text
+from random_lives import ran
 from script_text import Refusal
 
 OLD_IMAGES = Path(__file__).resolve().parent / "old_images"
-MOST_SECONDS = 120
 VALUES = (0, 1, 2**63, 2**64 - 1)
 PAIRS = [(b"apple", b"7"), (b"k" * 57, b"[" + b"1," * 64 + b"2]"), (b"plum", b'"' + b"\xc3\xa9" * 30 + b'"')]
 SEVEN = [(key, b"%d" % at) for at, key in enumerate((b"a", b"b", b"c", b"d", b"e", b"f", b"g"))]
@@ -469,8 +468,7 @@ def first_wrong(program, images, at_once=4):
 
     def wrong(image):
         name, data, owed = image
-        ended = subprocess.run([program, "recover"], input=data, capture_output=True, check=False, timeout=MOST_SECONDS)
-        said = ended.returncode, ended.stdout
+        said = ran(program, "recover", data)
         return None if said == owed else (name, said, owed)
 
     images = list(images)

@@ -43,7 +43,7 @@ def line_refused(data):
 
 class ReadImages(unittest.TestCase):
     def test_rows(self):
-        self.assertGreaterEqual(len(image_rows()), 12)
+        self.assertGreaterEqual(len(image_rows()), 43)
         for name, text, status, written in image_rows():
             with self.subTest(name):
                 self.assertEqual((status, written.encode()), answer_of(text.encode()))

@@ -31,6 +31,8 @@ from script_text import Refusal, raw_lines, read_script
 PROGRAM = built()
 MOST_COMMANDS = 200
 MOST_SECONDS = 120
+# numbers by which is picked what a crash leaves
+POWERS = [*range(8), 2**62, 2**64 - 1]
 DOCUMENTS = ["0", "-3", "12", '"a text"', '{"name": "pear", "price": 95}', "[ 1, 2,3 ]", "null", "9223372036854775807", '"x = new"']
 PIECES = ["0", "1", " ", "  ", "put", "putif", "add", "-0", "01", "1.5", "{", "}", "[", '"', "key", "cut", "life", "lines", "\t", "\r", "#", "\x7f"]
 
@@ -67,7 +69,7 @@ def script_text(choice, clients=1, lives=1, commands=20, cuts=False, most=None, 
     lines = [f"lines {store.most + 1}"]
     cut = choice.choice([0.4, 0.4, 1]) if cuts else 0
     for _ in range(lives):
-        lines.append(f"life {clients} power {choice.randint(0, 9)}")
+        lines.append(f"life {clients} power {choice.choice(POWERS)}")
         lines.extend(f"cut {client} {choice.randint(0, steps)}" for client in range(clients) if choice.random() < cut)
         made = [0] * clients
         for _ in range(commands):
@@ -78,6 +80,14 @@ def script_text(choice, clients=1, lives=1, commands=20, cuts=False, most=None, 
                 lines.append(f"{client} {asked}")
                 store.answer(read_script(f"{lines[0]}\nlife 1 power 0\n0 {asked}".encode()).lives[0].commands[0])
     return ("\n".join(lines) + "\n").encode()
+
+
+def random_script(choice):
+    """A script of 1 to 5 lives of 1 to 8 clients, some of which may be stopped."""
+    clients, lives = choice.randint(1, 8), choice.randint(1, 5)
+    steps = choice.choice([99, 999, 19_999])
+    commands = choice.choice([60, 60, clients * MOST_COMMANDS])
+    return script_text(choice, clients, lives, choice.randint(0, commands), cuts=True, most=MOST_COMMANDS, steps=steps)
 
 
 def spoiled(choice, script):
@@ -222,18 +232,28 @@ class Asked:
 RUN = Asked("run", read_script)
 
 
+def ran(program, word, text):
+    """The status with which a command of the program ends on a text, and what it writes."""
+    ended = subprocess.run([program, *word.split()], input=text, capture_output=True, check=False, timeout=MOST_SECONDS)
+    return ended.returncode, ended.stdout
+
+
 def answer_of_program(program, script, word="run"):
     """What the program says of a script: its report, or its refusal, or how else it ended."""
-    ended = subprocess.run([program, *word.split()], input=script, capture_output=True, check=False, timeout=MOST_SECONDS)
-    if ended.returncode == 3:
-        _, _, line, reason = ended.stdout.decode().split()
+    status, written = ran(program, word, script)
+    if status == 3:
+        _, _, line, reason = written.decode().split()
         return Refused(int(line.rstrip(":")), reason)
-    return ended.stdout if ended.returncode == 0 else f"status {ended.returncode}"
+    return written if status == 0 else f"status {status}"
 
 
 def disagreement(program, script, seen, asked=RUN):
     """Where the program and the tools disagree on a script; else None."""
-    answer = answer_of_program(program, script, asked.word)
+    return why_wrong(script, answer_of_program(program, script, asked.word), seen, asked)
+
+
+def why_wrong(script, answer, seen, asked=RUN):
+    """Where what the program says of a script and the tools disagree; else None."""
     if isinstance(answer, str):
         return answer
     if isinstance(answer, Refused):
@@ -263,10 +283,7 @@ def compare(count, seen, program=PROGRAM):
     """Runs so many scripts through the program; why they disagree on the first on which they do, with that script, or None."""
     for seed in range(count):
         choice = random.Random(seed)
-        clients, lives = choice.randint(1, 8), choice.randint(1, 5)
-        steps = choice.choice([99, 999, 19_999])
-        commands = choice.choice([60, 60, clients * MOST_COMMANDS])
-        script = script_text(choice, clients, lives, choice.randint(0, commands), cuts=True, most=MOST_COMMANDS, steps=steps)
+        script = random_script(choice)
         if seed % 2:
             script = spoiled(choice, script)
         why = disagreement(program, script, seen)

@@ -11,7 +11,6 @@ Example: random_traces.py 2000
 Status 0 where both agree, 1 at the first trace on which they do not, 2 where the words are others.
 """
 import random
-import subprocess
 import sys
 from collections import Counter
 from pathlib import Path
@@ -19,12 +18,11 @@ from pathlib import Path
 TOOLS = Path(__file__).resolve().parent.parent
 sys.path.insert(0, str(TOOLS))
 
-from commands import asked_words, built, needed
+from commands import asked_words, needed
 from plain_core import WORD, Core
+from random_lives import PROGRAM, ran
 from record_trace import NUMBERS, Recorder, found_in, wrong
 
-PROGRAM = built()
-MOST_SECONDS = 120
 ENDS = [0, 1, 15, 16, 144, 145, 511, 512, 513, 1679, 1680, 2**40, 2**40 + 1, WORD - 1]
 # What stands in front of an event: nothing; a caller that holds a replica alone; one that shares it; an entry of its own, that it may read
 FRONTS = {
@@ -81,17 +79,11 @@ def texts_of_arguments():
                     yield "\n".join(["trace 1 64"] + front + [event]).encode()
 
 
-def ran(program, text):
-    """The status with which `trace` ends on a text, and what it writes."""
-    ended = subprocess.run([program, "trace"], input=text, capture_output=True, check=False, timeout=MOST_SECONDS)
-    return ended.returncode, ended.stdout
-
-
 def compare(texts, seen, program=PROGRAM):
     """Runs traces through the program; the first of which it finds something else than the model, or None."""
     for text in texts:
         found = found_in(text)
-        want, got = (3 if found.startswith("refused ") else 0, f"{found}\n".encode()), ran(program, text)
+        want, got = (3 if found.startswith("refused ") else 0, f"{found}\n".encode()), ran(program, "trace", text)
         if want != got:
             return f"the model finds {want}, the program {got}\n{text.decode()}"
         seen.add(text, found)

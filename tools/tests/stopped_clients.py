@@ -14,7 +14,6 @@ Status 0 where each report is legal and each sum right, 1 where one is not, 2 wh
 """
 import itertools
 import re
-import subprocess
 import sys
 from collections import Counter
 from concurrent.futures import ThreadPoolExecutor
@@ -26,7 +25,7 @@ sys.path[:0] = [str(TESTS), str(TESTS.parent)]
 
 import check_report
 from commands import asked_words, needed
-from random_lives import MOST_SECONDS, PROGRAM
+from random_lives import PROGRAM, ran
 from report_text import Fault, read_report
 from script_text import read_script
 
@@ -107,12 +106,12 @@ class Table:
     def fates(self, cuts):
         """Runs the script with these cuts, and judges its report."""
         script = script_of(self.choice, cuts)
-        ended = subprocess.run([self.program, "run"], input=script, capture_output=True, check=False, timeout=MOST_SECONDS)
-        fates = fates_of(ended.stdout)
+        status, report = ran(self.program, "run", script)
+        fates = fates_of(report)
         self.met.runs += 1
         self.met.fates[fates] += 1
-        if ended.returncode != 0 or READ.findall(ended.stdout) != [wanted(fates)] or not is_legal(script, ended.stdout):
-            self.met.wrong.append((script, ended.returncode, ended.stdout))
+        if status != 0 or READ.findall(report) != [wanted(fates)] or not is_legal(script, report):
+            self.met.wrong.append((script, status, report))
         return fates
 
     def one_stopped(self):

@@ -1,6 +1,5 @@
 """Tests of the tools' readers, and of the built program, on texts that are scripts, images or traces, and on texts that are none."""
 import json
-import subprocess
 import sys
 import unittest
 from pathlib import Path
@@ -18,7 +17,11 @@ from script_text import Refusal, read_pool_script, read_script
 ROWS = Path(__file__).resolve().parent / "rows" / "texts.json"
 HEAD = b"lines 64\nlife 1 power 0\n"
 READERS = {"run": read_script, "fifo": read_queue_script, "pool": read_pool_script, "recover": read_image}
-WORDS = {"run": ["run"], "fifo": ["fifo"], "pool": ["pool", "3"], "recover": ["recover"], "trace": ["trace"]}
+WORDS = {"run": "run", "fifo": "fifo", "pool": "pool 3", "recover": "recover", "trace": "trace"}
+# the least numbers of texts, of those of them that are refused, and of images with words in their slots
+TEXTS = 568
+REFUSED = 462
+SLOTS = 34
 # a life of eight clients, whose commands come so often
 EIGHT = b"life 8 power 0\n|0 get some_key\n1 count\n2 next\n3 del k\n4 add n -1\n5 put a 1\n6 next a\n7 get a\n|"
 # behind 100,000 commands a cut may still come, and no further command
@@ -66,15 +69,8 @@ def slot_texts():
         yield text, (0, b"recovered place 0 documents 0\n" + told.encode()) if told else (7, b"image refused: body\n")
 
 
-def ran(word, text):
-    """The status with which the program ends on a text, and what it writes."""
-    words = [random_lives.PROGRAM, *WORDS[word]]
-    ended = subprocess.run(words, input=text, capture_output=True, check=False, timeout=random_lives.MOST_SECONDS)
-    return ended.returncode, ended.stdout
-
-
 def given_by(word, text):
-    """What the tools' reader makes of a text; of what is neither refused nor a script, nothing."""
+    """What the tools' reader makes of a text: the line refused and why, or the lines, lives and commands of a script."""
     try:
         script = READERS[word](text)
     except Refusal as refusal:
@@ -82,14 +78,31 @@ def given_by(word, text):
     return ["script", script.lines, len(script.lives), sum(len(life.commands) for life in script.lives)]
 
 
-class Texts(unittest.TestCase):
+class AllTexts(unittest.TestCase):
+    """The texts for the tests below, none of which may be missing."""
+
+    def texts(self):
+        texts = list(each_text())
+        self.assertGreaterEqual(len(texts), TEXTS)
+        self.assertGreaterEqual(sum(want[0] == "refused" for _, want, _ in texts), REFUSED)
+        return texts
+
+    def slots(self):
+        slots = list(slot_texts())
+        self.assertGreaterEqual(len(slots), SLOTS)
+        return slots
+
+
+class Texts(AllTexts):
+    """The tools' readers on them."""
+
     def test_slots(self):
-        for text, want in slot_texts():
+        for text, want in self.slots():
             with self.subTest(text):
                 self.assertEqual(want, answer_of(text))
 
     def test_each_text(self):
-        for word, want, text in each_text():
+        for word, want, text in self.texts():
             with self.subTest(word=word, text=text[:80], want=want):
                 if word == "trace":
                     self.assertEqual(f"refused line {want[1]}: {want[2]}", found_in(text))
@@ -100,8 +113,8 @@ class Texts(unittest.TestCase):
                     self.assertEqual(want, given_by(word, text))
 
 
-class ProgramOnTexts(unittest.TestCase):
-    """The built program on the same texts."""
+class ProgramOnTexts(AllTexts):
+    """The built program on them."""
 
     def setUp(self):
         if not is_tested(random_lives.PROGRAM):
@@ -110,22 +123,16 @@ class ProgramOnTexts(unittest.TestCase):
             self.skipTest("the program is not built")
 
     def test_each_text(self):
-        refused = 0
-        for word, want, text in each_text():
+        for word, want, text in self.texts():
             with self.subTest(word=word, text=text[:80], want=want):
-                status, written = ran(word, text)
+                status, written = random_lives.ran(random_lives.PROGRAM, WORDS[word], text)
                 if want[0] == "refused":
-                    refused += 1
                     self.assertEqual((3, f"refused line {want[1]}: {want[2]}\n".encode()), (status, written))
                 else:
                     self.assertEqual(0, status)
                     check_report.judge(READERS[word](text), read_report(written))
-        self.assertGreater(refused, 300)
 
     def test_slots(self):
-        count = 0
-        for text, want in slot_texts():
-            count += 1
+        for text, want in self.slots():
             with self.subTest(text):
-                self.assertEqual(want, ran("recover", text))
-        self.assertGreaterEqual(count, 34)
+                self.assertEqual(want, random_lives.ran(random_lives.PROGRAM, "recover", text))

@@ -68,16 +68,16 @@ class ProgramOnTraces(unittest.TestCase):
 
     def test_rows(self):
         rows = trace_rows()
-        self.assertGreaterEqual(len(rows), 45)
+        self.assertGreaterEqual(len(rows), 134)
         for text, status, written in rows:
             with self.subTest(text):
-                self.assertEqual((status, written.encode()), random_traces.ran(random_lives.PROGRAM, text.encode()))
+                self.assertEqual((status, written.encode()), random_lives.ran(random_lives.PROGRAM, "trace", text.encode()))
 
     def test_the_longest_trace(self):
         text = b"trace 8 64\n" + b"crash 3 place 0\n" * MOST_LINES
-        self.assertEqual((0, b"yes events 0 crashes 10000\n"), random_traces.ran(random_lives.PROGRAM, text))
+        self.assertEqual((0, b"yes events 0 crashes 10000\n"), random_lives.ran(random_lives.PROGRAM, "trace", text))
         for more in (b"crash 3 place 0\n", b"nothing"):
-            self.assertEqual((3, b"refused line 10002: events\n"), random_traces.ran(random_lives.PROGRAM, text + more))
+            self.assertEqual((3, b"refused line 10002: events\n"), random_lives.ran(random_lives.PROGRAM, "trace", text + more))
 
     def test_random_traces(self):
         seen = random_traces.Seen()

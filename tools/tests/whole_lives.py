@@ -1,16 +1,17 @@
 #!/usr/bin/env python3
-"""Whole lives through the program: clients that are stopped at each step of a command, many clients over one key, written scripts, and a long life.
+"""Whole lives through the program: clients that are stopped at each step of a command, many clients over one key, random scripts, and a long life.
 
     whole_lives.py [PROGRAM]     runs all of them through the program, and prints the first that is wrong
 
-Each report is legal, and has what is said of it here: the commands answered, the clients stopped and those that ran out of free cells. Scripts of up to
-five lives of up to eight clients are written by a generator, the same ones in each run. The program is the one given, or the one that tools/build takes.
+Each report is legal, and has what is said of it here: the commands answered, the clients stopped and those that ran out of free cells. The random
+scripts are those of random_lives.py, of up to five lives of up to eight clients, the same ones in each run. The program is the one given, or the one
+that tools/build takes.
 
 It takes a minute on four processors.
 Example: whole_lives.py
 Status 0 where each is as it must be, 1 where one is not, 2 where the words are others.
 """
-import subprocess
+import random
 import sys
 from concurrent.futures import ThreadPoolExecutor
 from dataclasses import dataclass
@@ -19,11 +20,10 @@ from pathlib import Path
 TESTS = Path(__file__).resolve().parent
 sys.path[:0] = [str(TESTS), str(TESTS.parent)]
 
-import check_report
 from commands import asked_words, needed
-from random_lives import MOST_SECONDS, PROGRAM
-from report_text import UNANSWERED, Fault, read_report
-from script_text import read_script
+from plain_store import Store
+from random_lives import PROGRAM, Seen, answer_of_program, command, disagreement, random_script, why_wrong
+from report_text import UNANSWERED
 
 # the steps within which a command of a client alone is answered
 MOST_STEPS = 20_000
@@ -32,9 +32,10 @@ STEPS_BESIDE = 1_200
 # what a crash leaves of words that were not yet durable
 CHOICES = (0, 1, 2)
 CHOICES_BESIDE = (0, 1, 2, 3, 11_400_714_819_323_198_485)
-# the updates of each other client beside one that is stopped, and how far apart the steps are at which it is
+# beside two others with so many updates each a client is stopped at steps so far apart, up to a number within which its own update is answered
 UPDATES = 48
-APART = 7
+APART = 35
+STEPS_WITH_CELLS = 6_000
 # so often two clients add to one document
 PAIRS = 500
 # so often eight clients make 16 commands each, and so often 200
@@ -42,28 +43,15 @@ ROUNDS = 1_200
 LONG_ROUNDS = 24
 # as many commands as a script may have
 MOST_COMMANDS = 100_000
+# the seeds of random scripts, and how many scripts are made from each
 SEEDS = range(1, 7)
 SCRIPTS = 50
-
-KEYS = ("a", "b", "b:1", "c", "d")
-DOCUMENTS = (
-    "0",
-    "9223372036854775807",
-    "null",
-    '{"b":[1,2],"a":true}',
-    '"a text that takes a second line of the store, since it is as long as this one"',
-    "-7",
-)
-AMOUNTS = ("1", "-1", "9223372036854775807", "-9223372036854775808")
-POWERS = ("0", "1", "2", "3", "4611686018427387904", "18446744073709551615")
-# a store of 64 lines does not hold five of it
-LONG = '"' + "abcdefghi " * 100 + '"'
 
 
 @dataclass(frozen=True)
 class Outcome:
-    """What came of a script: its report, why that is not legal if it is not, how many commands were answered, how many clients were stopped, and
-    how many ran out of free cells."""
+    """What came of a script: its report, why that is not legal if it is not, and of one that is legal how many commands were answered, how many
+    clients were stopped, and how many ran out of free cells."""
 
     report: str
     wrong: str
@@ -74,18 +62,10 @@ class Outcome:
 
 def lived(program, script):
     """Runs the lives of a script, and judges the report."""
-    ended = subprocess.run([program, "run"], input=script.encode(), capture_output=True, check=False, timeout=MOST_SECONDS)
-    report, wrong = read_report(ended.stdout), ""
-    if ended.returncode != 0:
-        wrong = f"status {ended.returncode}"
-    try:
-        check_report.judge(read_script(script.encode()), report)
-    except Fault as fault:
-        wrong = str(fault)
-    answered = sum(len(life.reads) + sum(not entry.rest.endswith(f" = {UNANSWERED}") for entry in life.entries) for life in report.lives)
-    stopped = sum(len(life.stops) for life in report.lives)
-    gave_up = sum(len(life.fulls) for life in report.lives)
-    return Outcome(ended.stdout.decode("utf-8", "replace"), wrong, answered, stopped, gave_up)
+    answer, seen = answer_of_program(program, script.encode()), Seen()
+    report = answer.decode("utf-8", "replace") if isinstance(answer, bytes) else ""
+    wrong = why_wrong(script.encode(), answer, seen) or ""
+    return Outcome(report, wrong, seen.entries - seen.unanswered + seen.reads, seen.stops_kept + seen.stops_lost, seen.given_up)
 
 
 def ends(choice, kept, linked):
@@ -148,15 +128,19 @@ def stopped_beside(program, choice):
 
 def stopped_with_cells(program):
     """What is wrong where client 1 is stopped in an update, maybe while it needs the others' entries, and two others make enough of them to use their cells
-    again, or run out of free ones: all are answered where none ran out, and none ran out where client 1 was not stopped."""
+    again, or run out of free ones: all are answered where none ran out, and none ran out where client 1 was not stopped. With some of the steps, and not
+    with all, it is stopped."""
     others = "".join(f"0 put b {number}\n2 put c {number}\n" for number in range(UPDATES))
     last = f"= {UPDATES - 1}\n"
-    for steps in range(0, STEPS_BESIDE, APART):
+    limits = range(0, STEPS_WITH_CELLS, APART)
+    stopped = 0
+    for steps in limits:
         got = lived(program, f"lines 64\nlife 3 power 1\ncut 1 {steps}\n1 put a 1\n{others}life 1 power 0\n0 get a\n0 get b\n0 get c\n")
         all_read = f"get b {last}" in got.report and f"get c {last}" in got.report
         if got.wrong or all_read != (got.gave_up == 0) or (got.gave_up and not got.stopped):
             return f"stopped at {steps} beside clients with few cells: {got.wrong}\n{got.report}"
-    return None
+        stopped += got.stopped > 0
+    return None if 0 < stopped < len(limits) else f"beside clients with few cells {stopped} of {len(limits)} were stopped"
 
 
 def in_either_order(program):
@@ -173,9 +157,9 @@ def in_either_order(program):
 def over_one_key(commands):
     """The script of eight clients that update and read one key, with so many commands each."""
     lines = ["lines 64", "life 8 power 0"]
-    for command in range(commands):
+    for number in range(commands):
         for client in range(8):
-            asked = ("add k 1", "get k", f"put k {command}", "del k")[(command + client) % 4]
+            asked = ("add k 1", "get k", f"put k {number}", "del k")[(number + client) % 4]
             lines.append(f"{client} {asked}")
     return "\n".join(lines) + "\n"
 
@@ -190,76 +174,22 @@ def many_clients(program, commands, rounds):
     return None
 
 
-class Numbers:
-    """A generator of numbers that look random, by its state (Steele, Lea, Flood: SplitMix)."""
-
-    MASK = 2**64 - 1
-
-    def __init__(self, seed):
-        self.state = seed
-
-    def below(self, bound):
-        self.state = (self.state + 0x9E37_79B9_7F4A_7C15) & self.MASK
-        mixed = ((self.state ^ (self.state >> 30)) * 0xBF58_476D_1CE4_E5B9) & self.MASK
-        mixed = ((mixed ^ (mixed >> 27)) * 0x94D0_49BB_1331_11EB) & self.MASK
-        return (mixed ^ (mixed >> 31)) % bound
-
-    def one_of(self, words):
-        return words[self.below(len(words))]
-
-
-def command(numbers, client):
-    """The line of a command."""
-    key = numbers.one_of(KEYS)
-    kind = numbers.below(16)
-    if kind < 4:
-        return f"{client} put {key} {numbers.one_of(DOCUMENTS)}\n"
-    if kind < 7:
-        return f"{client} add {key} {numbers.one_of(AMOUNTS)}\n"
-    if kind < 9:
-        return f"{client} del {key}\n"
-    if kind < 12:
-        return f"{client} get {key}\n"
-    return {12: f"{client} next {key}\n", 13: f"{client} next\n", 14: f"{client} count\n", 15: f"{client} put {key} {LONG}\n"}[kind]
-
-
-def life_lines(numbers):
-    """The lines of a life of up to eight clients, some of which are stopped; in every fourth life cells are given again."""
-    clients = numbers.below(8) + 1
-    commands = 200 if numbers.below(4) == 0 else 16
-    lines = [f"life {clients} power {numbers.one_of(POWERS)}\n"]
-    for client in range(clients):
-        if numbers.below(3) == 0:
-            most = (200, 6_000, 60_000)[numbers.below(3)]
-            lines.append(f"cut {client} {numbers.below(most)}\n")
-    for client in range(clients):
-        lines.extend(command(numbers, client) for _ in range(numbers.below(commands + 1)))
-    return lines
-
-
-def written_script(numbers):
-    """A script of up to five lives."""
-    lines = [f"lines {numbers.below(16) + 64}\n"]
-    for _ in range(numbers.below(5) + 1):
-        lines.extend(life_lines(numbers))
-    return "".join(lines)
-
-
-def written_scripts(program, seed):
+def random_scripts(program, seed):
     """What is wrong of the scripts of a seed: all are legal, and some client is stopped."""
-    numbers, stopped = Numbers(seed), 0
+    choice, seen = random.Random(seed), Seen()
     for number in range(SCRIPTS):
-        got = lived(program, written_script(numbers))
-        if got.wrong:
-            return f"script {number} of seed {seed}: {got.wrong}\n{got.report}"
-        stopped += got.stopped
-    return None if stopped else f"seed {seed}: no client was stopped"
+        script = random_script(choice)
+        wrong = disagreement(program, script, seen)
+        if wrong:
+            return f"script {number} of seed {seed}: {wrong}\n{script.decode()}"
+    return None if seen.stops_kept + seen.stops_lost else f"seed {seed}: no client was stopped"
 
 
 def long_life(program):
     """What is wrong of a life of one client with as many commands as a script may have, of all kinds: each is answered, in a line of its own."""
-    numbers = Numbers(1)
-    got = lived(program, "lines 128\nlife 1 power 1\n" + "".join(command(numbers, 0) for _ in range(MOST_COMMANDS)))
+    # it stays empty: a putif names a revision as if no key had one yet
+    choice, empty = random.Random(1), Store(128)
+    got = lived(program, "lines 128\nlife 1 power 1\n" + "".join(f"0 {command(choice, empty)}\n" for _ in range(MOST_COMMANDS)))
     is_right = not got.wrong and got.answered == MOST_COMMANDS and got.report.count("\n") == MOST_COMMANDS + 2
     return None if is_right else f"a long life: {got.wrong}, {got.answered} answered, {got.report.count(chr(10))} lines"
 
@@ -277,7 +207,7 @@ def tables(program):
     for choice in CHOICES_BESIDE:
         yield f"an update that is stopped beside others, power {choice}", stopped_beside, program, choice
     for seed in SEEDS:
-        yield f"scripts of seed {seed}", written_scripts, program, seed
+        yield f"scripts of seed {seed}", random_scripts, program, seed
 
 
 def run_tables(program=PROGRAM):

@@ -36,7 +36,8 @@
 //! - The one verdict that is of the trace, from the base with which a service of documents opens anew; where it is `Yes` each state passed
 //!   is lawful, and nothing answered is lost: `verdict_of_trace` (`IsTraceVerdict`).
 //!
-//! Tested (`life_tests`): the worked texts of images, and slots with words that are no reply.
+//! Tested through the program (`tools/tests/image_tests.py`, `tools/tests/text_tests.py`): the worked texts of images, and slots with words that
+//! are no reply.
 #![tactic(auto)]
 
 mod image_answer;
