@@ -38,6 +38,7 @@ module _ {Op Reason : Type 0} where
       if is_word (codes "cut") word then ok_or (option_map forms.Cut (cut_behind commands.limits.cuts clients cuts rest)) (commands.reason reasons.Cut)
       else command_of commands asked count (client_of clients word) rest
 
+  -- what a line says that begins no life, in the life that was begun last, if there is one
   abbrev pub said_in : Commands Op Reason → (Option (List ℕ) → Result Op Reason) → ℕ → Option (Life Op) → List ℕ → Result (ScriptLine Op) Reason
   said_in commands asked count None line = Err (commands.reason reasons.Life)
   said_in commands asked count (Some life) line = said_by commands asked count life.clients life.cuts (first_word line) (rest_of line)
