@@ -68,11 +68,12 @@ pub record IsWorkOf {O Op Reply Store : Type 0} (m : Meaning Op Reply Store) (li
   pub caller : IsCallerIn life r client (seat_of work.handed)
   pub ends : IsEndOf m life client (seat_of work.handed).known.local work.lines.entries.items work.lines.reads.items work.end
 
--- the stop line of an end, and its full line
+-- the stop line of a client that ended so: none where it was not stopped
 abbrev pub stop_in : End → List StopLine
 stop_in (Stopped line) = line ∷ []
 stop_in _ = []
 
+-- the full line of a client that ended so: none where it did not end Full
 abbrev pub full_in : End → List FullLine
 full_in (Full line) = line ∷ []
 full_in _ = []

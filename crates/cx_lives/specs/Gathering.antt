@@ -37,6 +37,7 @@ pub record AreGathered {O Op Reply Store : Type 0} (m : Meaning Op Reply Store) 
   pub works : MatchBool g.ends.impossible (HasImpossibleEnd m life (locals_of (seats_of g.handed.items)))
       (AreWorks m.encoding life (locals_of (seats_of g.handed.items)) g.lines.entries.items g.lines.reads.items g.ends.stops.items g.ends.fulls.items)
 
+-- whether an end is one that no client of a closed service has
 abbrev pub is_impossible : End → Bool
 is_impossible Impossible = true
 is_impossible _ = false

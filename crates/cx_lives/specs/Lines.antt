@@ -5,25 +5,26 @@ use Rattle.cx_attempts.specs.declared.lookup.Seen.{Seen}
 use Rattle.life_records.specs.Records.{AreOfNoReply, Meaning}
 use Rattle.cx_lives.specs.declared.lines.Lines.{Lines}
 
--- one entry's line more
+-- The lines of a client are one entry's more: that of its command of this number, with the reply that has the answer's words.
 pub record NotesEntryLine {Op Reply Store : Type 0} (m : Meaning Op Reply Store) (client number : ℕ) (answer : Answer) (before after : Lines Reply) : Type 0 where
   pub reply : Reply
   pub words : m.encoding.reply_words reply ≡ answer.reply
   pub entries_are : after.entries.items ≡ before.entries.items ++ record { ticket = answer.ticket; client = client; command = number; reply = Some reply } ∷ []
   pub reads_are : after.reads.items ≡ before.reads.items
 
--- one read's line more
+-- The lines of a client are one read's more: that of its command of this number, with the reply that has the words that were seen.
 pub record NotesRead {Op Reply Store : Type 0} (m : Meaning Op Reply Store) (client number : ℕ) (seen : Seen) (before after : Lines Reply) : Type 0 where
   pub reply : Reply
   pub words : m.encoding.reply_words reply ≡ seen.reply
   pub entries_are : after.entries.items ≡ before.entries.items
   pub reads_are : after.reads.items ≡ before.reads.items ++ record { client = client; command = number; place = seen.place; reply = reply } ∷ []
 
--- one entry's line more where the words are a reply's; else the lines are as they were
+-- An entry's line is noted where the answer has the words of a reply; else the lines are as they were. The last argument tells which.
 abbrev pub AddsClientEntry : {Op Reply Store : Type 0} → Meaning Op Reply Store → ℕ → ℕ → Answer → Lines Reply → Lines Reply → Bool → Type 0
 AddsClientEntry m client number answer before after true = NotesEntryLine m client number answer before after
 AddsClientEntry m client number answer before after false = (after ≡ before) × AreOfNoReply m answer.reply
 
+-- A read's line is noted where what was seen has the words of a reply; else the lines are as they were. The last argument tells which.
 abbrev pub AddsClientRead : {Op Reply Store : Type 0} → Meaning Op Reply Store → ℕ → ℕ → Seen → Lines Reply → Lines Reply → Bool → Type 0
 AddsClientRead m client number seen before after true = NotesRead m client number seen before after
 AddsClientRead m client number seen before after false = (after ≡ before) × AreOfNoReply m seen.reply

@@ -70,7 +70,7 @@ pub fn run_life<O: TypedObject + Sync, R: Threads + Wait + Sync, G: Gate + Sync>
     }
     let clients = life.clients();
     let choice = life.choice();
-    let told = LifeRecord {
+    let report = LifeRecord {
         clients,
         from: remains.first,
         journal: Items::of(entries),
@@ -81,7 +81,7 @@ pub fn run_life<O: TypedObject + Sync, R: Threads + Wait + Sync, G: Gate + Sync>
         kept: 0,
         items: 0,
     };
-    Ok((told, remains))
+    Ok((report, remains))
 }
 
 /// The laws of a service's object.

@@ -103,6 +103,7 @@ pool_command seats = record {
   writes = script_writes IsPoolScript (IsRefusalText pool_grammar reason_text) (IsPoolReport seats);
 }
 
+-- what each command means
 abbrev pub command : AskedCommand → CommandMeaning
 command Run = run_command
 command Image = image_command

@@ -23,10 +23,11 @@ fault_text (Place root region) = codes "place " ++ decimal root ++ codes " " ++ 
 fault_text Body = codes "body"
 fault_text Memory = []
 
--- what is written of an image that is refused, and of a text that is no image text
+-- what is written of an image that is refused
 abbrev pub bad_image_text : ImageFault → List ℕ
 bad_image_text fault = codes "image refused: " ++ fault_text fault ++ codes "\n"
 
+-- what is written of a text that is no image text: the line, and why
 abbrev pub bad_line_text : ℕ → ImageReason → List ℕ
 bad_line_text line reason = codes "refused line " ++ decimal line ++ codes ": " ++ image_reason_text reason ++ codes "\n"
 
@@ -36,7 +37,7 @@ pub record IsRecoveredText (input text : List ℕ) : Type 0 where
   pub read : IsImageText input image
   pub found : Recovered
   pub is : IsRecoveredOf image found
-  pub told : text ≡ recovered_text found
+  pub text_is : text ≡ recovered_text found
 
 -- The text names the first check that the image that the input says does not pass, with what was found there.
 pub record IsRefusedImage (input text : List ℕ) : Type 0 where

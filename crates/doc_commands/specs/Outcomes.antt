@@ -44,18 +44,21 @@ abbrev pub TellsSlot : ℕ → List ℕ → Option Applied → Type 0
 TellsSlot client region None = slot_number client region ≡ 0
 TellsSlot client region (Some applied) = (applied.client ≡ client) × (slot_number client region ≢ 0) × IsLastCommand region applied
 
--- ---- faults: words of no reply, or out of memory
+-- ---- faults
 
+-- why no reply was read off words: they are of none, or memory ran out
 abbrev pub IsReplyFault : List ℕ → ImageFault → Type 0
 IsReplyFault words Body = AreOfNoReply words
 IsReplyFault words Memory = Unit {0}
 IsReplyFault words _ = ⊥
 
+-- why a slot tells no last command: it has a number and words of no reply, or memory ran out
 abbrev pub IsSlotFault : ℕ → List ℕ → ImageFault → Type 0
 IsSlotFault client region Body = (slot_number client region ≢ 0) × AreOfNoReply (slot_reply client region)
 IsSlotFault client region Memory = Unit {0}
 IsSlotFault client region _ = ⊥
 
+-- why a region tells no last commands: some slot with a number holds no reply, or memory ran out
 abbrev pub IsOutcomesFault : List ℕ → ImageFault → Type 0
 IsOutcomesFault region Body = ¬ HoldsStoreReplies region
 IsOutcomesFault region Memory = Unit {0}

@@ -30,6 +30,7 @@ found_text (Yes events crashes) = codes "yes events " ++ decimal events ++ codes
 found_text (Guard line) = codes "no line " ++ decimal line ++ codes ": guard"
 found_text (Place line found) = codes "no line " ++ decimal line ++ codes ": place " ++ decimal found
 
+-- the line that tells a verdict
 abbrev pub verdict_text : Verdict → List ℕ
 verdict_text verdict = found_text verdict ++ codes "\n"
 
@@ -37,4 +38,4 @@ verdict_text verdict = found_text verdict ++ codes "\n"
 pub record IsTraceVerdict (trace : Trace) (text : List ℕ) : Type 0 where
   pub verdict : Verdict
   pub is : IsVerdictFrom (fresh_base trace.lines) trace verdict
-  pub told : text ≡ verdict_text verdict
+  pub text_is : text ≡ verdict_text verdict

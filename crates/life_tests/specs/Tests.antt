@@ -8,17 +8,19 @@ use Rattle.client_pool.specs.Pools.{AreClients}
 use Rattle.client_pool.specs.declared.client.Client.{Client}
 use Rattle.client_pool.specs.declared.pool.Pool.{Pool}
 
--- a pool of counters, a client of it, and all its clients
+-- a pool of counters
 abbrev pub Counts : Pool Counters → Type 0
 Counts pool = IsPool (λ (_ : Counters). counters_read_only) pool
 
+-- a client of this pool of counters
 abbrev pub IsOf : Pool Counters → Client → Type 0
 IsOf pool client = IsClientOf pool.service pool.line.table.shared.table_id client
 
+-- all clients of this pool of counters
 abbrev pub AreAll : Pool Counters → List Client → Type 0
 AreAll pool clients = AreClients pool.service pool.line.table.shared.table_id clients
 
--- the same client, between its calls
+-- a client of the pool is given back: it is the same client, between its calls
 pub record IsBack (pool : Pool Counters) (before after : Client) : Type 0 where
   pub client : IsOf pool after
   pub same : IsSameClient before after

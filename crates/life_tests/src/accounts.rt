@@ -1,7 +1,7 @@
 //! The bank's operations on words, and its images.
 
 use crate::holds::holds;
-use crate::objects::{Answered, opening, stepped, told};
+use crate::objects::{Answered, opening, queried, stepped};
 use bank::{Bank, Op, Reply};
 use cx_base::Object;
 use std::alloc::{AllocError, Global};
@@ -209,13 +209,13 @@ const READINGS: [(Op, Option<Reply>); 5] = [
     (Op::Other, None),
 ];
 
-// What `query` tells on the opening image, where it leaves the words.
-fn is_told(alloc: Global, op: Op) -> Result<Option<Reply>, AllocError> {
+// The reply of `query` on the opening image, where it leaves the words.
+fn queried_reply(alloc: Global, op: Op) -> Result<Option<Reply>, AllocError> {
     let object = bank();
     let Some(words) = opening(alloc, &object)? else {
         return Ok(None);
     };
-    match told(alloc, &object, words, &op.words())? {
+    match queried(alloc, &object, words, &op.words())? {
         Some(answered) if have(&answered.words, &[1_000, 0, 0]) => {
             Ok(Some(Reply::of(&answered.reply)))
         }
@@ -223,13 +223,13 @@ fn is_told(alloc: Global, op: Op) -> Result<Option<Reply>, AllocError> {
     }
 }
 
-// The first reading that is told otherwise.
+// The first reading that has another reply.
 fn first_other_reading(
     alloc: Global,
     rows: &[(Op, Option<Reply>)],
 ) -> Result<Option<usize>, AllocError> {
     for (i, (op, reply)) in rows.iter().enumerate() {
-        if is_told(alloc, *op)? != *reply {
+        if queried_reply(alloc, *op)? != *reply {
             return Ok(Some(i));
         }
     }

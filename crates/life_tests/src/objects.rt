@@ -69,8 +69,8 @@ pub(crate) fn stepped<O: Object>(
     }
 }
 
-/// The same of an operation that only reads, by `query`; `None` of any other too.
-pub(crate) fn told<O: Object>(
+/// What `query` leaves of words and its reply to an operation that only reads; `None` where they are no image, of another operation, or where it halts.
+pub(crate) fn queried<O: Object>(
     alloc: Global,
     object: &O,
     words: Vec<u64>,

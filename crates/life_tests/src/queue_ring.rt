@@ -7,9 +7,9 @@ use std::alloc::{AllocError, Global};
 use std::test::Fail;
 
 /// What is asked: a kind, and the byte of a text of one; and of what is answered the kind, word 1 and the first word of the text.
-type Step = (u64, u64, Told);
+type Step = (u64, u64, Answer);
 
-type Told = (u64, u64, u64);
+type Answer = (u64, u64, u64);
 
 fn queue_in(lines: u64) -> Fifo {
     match lines {
@@ -35,7 +35,7 @@ fn stepped(
     fifo: &Fifo,
     words: Vec<u64>,
     op: &[u64; 144],
-) -> Result<Option<(Vec<u64>, Told)>, AllocError> {
+) -> Result<Option<(Vec<u64>, Answer)>, AllocError> {
     if !fifo.check(alloc, &words)? {
         return Ok(None);
     }
@@ -95,11 +95,11 @@ fn first_wrong_step(
     let Some(mut words) = opened(alloc, &fifo)? else {
         return Ok(Some(0));
     };
-    for (i, (kind, byte, told)) in steps.iter().enumerate() {
+    for (i, (kind, byte, wanted)) in steps.iter().enumerate() {
         let Some((next, answer)) = stepped(alloc, &fifo, words, &asked(*kind, *byte))? else {
             return Ok(Some(i));
         };
-        if answer != *told {
+        if answer != *wanted {
             return Ok(Some(i));
         }
         words = next;

@@ -47,7 +47,7 @@ fn seen(answered: &Answered, before: u64, is_read: bool) -> Option<(u64, bool)> 
 }
 
 /// What a client was answered in all, where each addition is in what it sees later. A client that is live has all its answers, and no other has.
-fn told(client: &Client, row: &Row) -> Option<Sum> {
+fn sum_of(client: &Client, row: &Row) -> Option<Sum> {
     let answers = client.answers();
     let is_whole = answers.len() as u64 == row.additions.wrapping_add(1);
     if client.is_live() != (row.limit == NO_LIMIT) || client.is_live() != is_whole {
@@ -71,14 +71,14 @@ fn told(client: &Client, row: &Row) -> Option<Sum> {
     Some(sum)
 }
 
-/// The same of all clients.
-fn all_told(clients: &[Client], row: &Row) -> Option<Sum> {
+/// The sums of what all clients were answered, added up.
+fn sum_of_all(clients: &[Client], row: &Row) -> Option<Sum> {
     let mut all = Sum {
         added: 0,
         queued: 0,
     };
     for client in clients {
-        let sum = told(client, row)?;
+        let sum = sum_of(client, row)?;
         all.added = all.added.wrapping_add(sum.added);
         all.queued = all.queued.wrapping_add(sum.queued);
     }
@@ -109,13 +109,13 @@ fn is_left(remains: &Remains, sum: Sum, row: &Row) -> bool {
     let Some((place, count)) = last(remains) else {
         return false;
     };
-    let untold = place.wrapping_sub(sum.added.wrapping_add(sum.queued));
+    let unanswered = place.wrapping_sub(sum.added.wrapping_add(sum.queued));
     let all = u64::from(row.clients).wrapping_mul(row.additions);
-    count == sum.added.wrapping_add(untold)
+    count == sum.added.wrapping_add(unanswered)
         && if row.limit == NO_LIMIT {
-            untold == 0 && sum.added == all
+            unanswered == 0 && sum.added == all
         } else {
-            untold <= 1 && sum.added < all
+            unanswered <= 1 && sum.added < all
         }
 }
 
@@ -127,7 +127,7 @@ fn is_right<R: Wait + Threads + Sync>(
 ) -> Result<bool, AllocError> {
     let (pool, clients) = opened(rt, alloc, row.callers, row.clients, row.limit)?;
     let clients = all_work(rt, alloc, &pool, clients, row.additions, row.threads)?;
-    let sum = all_told(&clients, row);
+    let sum = sum_of_all(&clients, row);
     match pool.close(rt, alloc, clients) {
         Ok(remains) => Ok(match sum {
             Some(sum) => is_left(&remains, sum, row),

@@ -10,19 +10,21 @@ use Rattle.client_pool.specs.Clients.{entries_called, next_place_of, answer_plac
 use Rattle.client_pool.specs.declared.call.Call.{Call}
 use Rattle.client_pool.specs.declared.call.Call.TheVariants.{Entry, Look}
 
--- an entry as one of the client's own
+-- the entry of an answered call, as if the client had entered it itself
 abbrev pub as_own : ℕ → AnsweredCall → Linked
-as_own client told = record { ticket = told.entry.ticket; entry = record told.entry.entry { caller = client } }
+as_own client answered = record { ticket = answered.entry.ticket; entry = record answered.entry.entry { caller = client } }
 
+-- the answer of an answered call
 abbrev pub answer_of : AnsweredCall → Answer
-answer_of told = told.answer
+answer_of answered = answered.answer
 
--- the reads, each behind the entries before it
+-- the reads among a client's calls, each with the number of entries that its client was answered before it
 abbrev pub seen_from : ℕ → List Call → List SeenRead
 seen_from before [] = []
-seen_from before (Entry told ∷ calls) = seen_from (before + 1) calls
+seen_from before (Entry answered ∷ calls) = seen_from (before + 1) calls
 seen_from before (Look read ∷ calls) = record { place = read.place; op = read.op; reply = read.reply; before = before } ∷ seen_from before calls
 
+-- what a caller of its own would have after these calls of a client: their entries, answers and reads, at no limit
 abbrev pub local_of : ℕ → List Call → Local
 local_of client calls = record (opening_local 1 0 client) {
   limit = 2 ^ 64 - 1;
@@ -31,7 +33,7 @@ local_of client calls = record (opening_local 1 0 client) {
   seen_reads = seen_from 0 calls;
 }
 
--- those of clients from one on
+-- what callers of their own would have after the calls of clients, whose numbers begin with this one
 abbrev pub locals_from : ℕ → List (List Call) → List Local
 locals_from client [] = []
 locals_from client (calls ∷ rest) = local_of client calls ∷ locals_from (client + 1) rest

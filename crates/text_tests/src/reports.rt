@@ -2,7 +2,7 @@
 
 use crate::holds::holds;
 use crate::named::name_commands;
-use crate::records::{Lived, Told, records_of};
+use crate::records::{Lived, RowReply, records_of};
 use cx_base::Items;
 use doc_text::{LifeRecord, Script, read_script, report};
 use std::alloc::{AllocError, Global};
@@ -32,8 +32,11 @@ life 1 power 0
 ",
     lives: &[(
         (1, 0),
-        &[(0, 0, 1, Some(Told::New)), (1, 0, 2, Some(Told::Replaced))],
-        &[(3, 2, Told::Doc(b"2"))],
+        &[
+            (0, 0, 1, Some(RowReply::New)),
+            (1, 0, 2, Some(RowReply::Replaced)),
+        ],
+        &[(3, 2, RowReply::Doc(b"2"))],
         (&[], &[]),
         (0, 2, 1),
     )],
@@ -52,7 +55,13 @@ lines 64
 life 1 power 0
 0 get a
 ",
-    lives: &[((1, 0), &[], &[(1, 0, Told::Absent)], (&[], &[]), (0, 0, 0))],
+    lives: &[(
+        (1, 0),
+        &[],
+        &[(1, 0, RowReply::Absent)],
+        (&[], &[]),
+        (0, 0, 0),
+    )],
     report: b"\
 life 0 clients 1 from 0
 read 0.1 at 0 get a = none
@@ -71,10 +80,10 @@ life 1 power 0
     lives: &[(
         (1, 0),
         &[
-            (0, 0, 1, Some(Told::Sum(i64::MAX))),
-            (1, 0, 2, Some(Told::Overflow)),
+            (0, 0, 1, Some(RowReply::Sum(i64::MAX))),
+            (1, 0, 2, Some(RowReply::Overflow)),
         ],
-        &[(3, 2, Told::Doc(b"9223372036854775807"))],
+        &[(3, 2, RowReply::Doc(b"9223372036854775807"))],
         (&[], &[]),
         (0, 2, 1),
     )],
@@ -100,12 +109,12 @@ life 1 power 0
     lives: &[(
         (1, 0),
         &[
-            (0, 0, 1, Some(Told::New)),
-            (1, 0, 3, Some(Told::NotNumber)),
-            (2, 0, 4, Some(Told::Deleted)),
-            (3, 0, 5, Some(Told::Absent)),
+            (0, 0, 1, Some(RowReply::New)),
+            (1, 0, 3, Some(RowReply::NotNumber)),
+            (2, 0, 4, Some(RowReply::Deleted)),
+            (3, 0, 5, Some(RowReply::Absent)),
         ],
-        &[(2, 1, Told::Doc(b"{\"a\":[],\"b\":1}"))],
+        &[(2, 1, RowReply::Doc(b"{\"a\":[],\"b\":1}"))],
         (&[], &[]),
         (0, 4, 0),
     )],
@@ -134,13 +143,16 @@ life 1 power 0
 ",
     lives: &[(
         (1, 0),
-        &[(0, 0, 1, Some(Told::New)), (1, 0, 2, Some(Told::New))],
         &[
-            (3, 2, Told::Key(b"a")),
-            (4, 2, Told::Key(b"c")),
-            (5, 2, Told::Key(b"c")),
-            (6, 2, Told::Absent),
-            (7, 2, Told::Number(2)),
+            (0, 0, 1, Some(RowReply::New)),
+            (1, 0, 2, Some(RowReply::New)),
+        ],
+        &[
+            (3, 2, RowReply::Key(b"a")),
+            (4, 2, RowReply::Key(b"c")),
+            (5, 2, RowReply::Key(b"c")),
+            (6, 2, RowReply::Absent),
+            (7, 2, RowReply::Number(2)),
         ],
         (&[], &[]),
         (0, 2, 2),
@@ -174,14 +186,14 @@ life 1 power 0
     lives: &[(
         (1, 0),
         &[
-            (0, 0, 1, Some(Told::Set(1))),
-            (1, 0, 2, Some(Told::Stale(1))),
-            (2, 0, 3, Some(Told::Replaced)),
-            (3, 0, 5, Some(Told::Set(3))),
-            (4, 0, 6, Some(Told::Deleted)),
-            (5, 0, 7, Some(Told::New)),
+            (0, 0, 1, Some(RowReply::Set(1))),
+            (1, 0, 2, Some(RowReply::Stale(1))),
+            (2, 0, 3, Some(RowReply::Replaced)),
+            (3, 0, 5, Some(RowReply::Set(3))),
+            (4, 0, 6, Some(RowReply::Deleted)),
+            (5, 0, 7, Some(RowReply::New)),
         ],
-        &[(4, 3, Told::Revision(2)), (8, 6, Told::Revision(4))],
+        &[(4, 3, RowReply::Revision(2)), (8, 6, RowReply::Revision(4))],
         (&[], &[]),
         (0, 6, 1),
     )],
@@ -208,7 +220,10 @@ life 2 power 0
 ",
     lives: &[(
         (2, 0),
-        &[(0, 1, 1, Some(Told::Sum(1))), (1, 0, 1, Some(Told::Sum(2)))],
+        &[
+            (0, 1, 1, Some(RowReply::Sum(1))),
+            (1, 0, 1, Some(RowReply::Sum(2))),
+        ],
         &[],
         (&[], &[]),
         (0, 2, 1),
@@ -238,10 +253,10 @@ life 1 power 0
         (
             (2, 0),
             &[
-                (0, 0, 1, Some(Told::New)),
-                (1, 1, 1, Some(Told::New)),
-                (2, 0, 2, Some(Told::Sum(3))),
-                (3, 1, 2, Some(Told::Sum(7))),
+                (0, 0, 1, Some(RowReply::New)),
+                (1, 1, 1, Some(RowReply::New)),
+                (2, 0, 2, Some(RowReply::Sum(3))),
+                (3, 1, 2, Some(RowReply::Sum(7))),
             ],
             &[],
             (&[], &[]),
@@ -251,9 +266,9 @@ life 1 power 0
             (1, 4),
             &[],
             &[
-                (1, 4, Told::Key(b"stock:apple")),
-                (2, 4, Told::Doc(b"7")),
-                (3, 4, Told::Number(3)),
+                (1, 4, RowReply::Key(b"stock:apple")),
+                (2, 4, RowReply::Doc(b"7")),
+                (3, 4, RowReply::Number(3)),
             ],
             (&[], &[]),
             (0, 0, 3),
@@ -286,7 +301,7 @@ life 2 power 0
 ",
     lives: &[(
         (1, 0),
-        &[(0, 0, 1, Some(Told::NoRoom)), (1, 0, 2, None)],
+        &[(0, 0, 1, Some(RowReply::NoRoom)), (1, 0, 2, None)],
         &[],
         (&[], &[]),
         (0, 2, 0),
@@ -314,8 +329,12 @@ life 2 power 0
     lives: &[
         (
             (3, 0),
-            &[(0, 0, 1, Some(Told::New)), (1, 1, 1, None), (2, 2, 1, None)],
-            &[(2, 1, Told::Doc(b"1"))],
+            &[
+                (0, 0, 1, Some(RowReply::New)),
+                (1, 1, 1, None),
+                (2, 2, 1, None),
+            ],
+            &[(2, 1, RowReply::Doc(b"1"))],
             (
                 &[(1, 1, 12, true), (2, 1, 18_446_744_073_709_551_614, false)],
                 &[],
@@ -364,7 +383,7 @@ life 3 power 1
     lives: &[(
         (3, 7),
         &[],
-        &[(1, 7, Told::Number(0))],
+        &[(1, 7, RowReply::Number(0))],
         (
             &[(1, 2, 40, false)],
             &[(0, 2, 1, 7, 8), (2, 1, 1, 7, 18_446_744_073_709_551_615)],
@@ -430,8 +449,8 @@ fn is_reported(
 /// The script, with as many clients in each life as its record tells.
 fn with_clients(script: Script, records: &[LifeRecord]) -> Script {
     let mut lives = script.lives.into_vec();
-    for (life, told) in lives.iter_mut().zip(records) {
-        life.clients = told.clients;
+    for (life, life_report) in lives.iter_mut().zip(records) {
+        life.clients = life_report.clients;
     }
     Script {
         lines: script.lines,
