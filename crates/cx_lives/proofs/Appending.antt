@@ -19,16 +19,16 @@ use Rattle.cx_lives.specs.declared.lives.Lived.{Lived}
 use Rattle.cx_lives.specs.declared.lives.Ran.{Ran}
 use Rattle.cx_lives.proofs.Taking.{take_next}
 
-module _ {Op Reply Store : Type 0} (m : Meaning Op Reply Store) (life : Life Op) (told : LifeRecord Reply) where
+module _ {Op Reply Store : Type 0} (m : Meaning Op Reply Store) (life : Life Op) (report : LifeRecord Reply) where
   pub legal_then : (begun : Begun Store) (lives : List (Life Op)) (records : List (LifeRecord Reply)) → AreLivesFrom m begun.place begun.store lives records
-      → IsLegalLife m (begun_by m begun lives records).place (begun_by m begun lives records).store life told
-      → AreLivesFrom m begun.place begun.store (lives ++ life ∷ []) (records ++ told ∷ [])
+      → IsLegalLife m (begun_by m begun lives records).place (begun_by m begun lives records).store life report
+      → AreLivesFrom m begun.place begun.store (lives ++ life ∷ []) (records ++ report ∷ [])
   legal_then begun [] [] are is = (is, tt)
   legal_then begun (one ∷ lives) (first ∷ records) are is = (are.0, legal_then (begun_after m begun one first.journal first.kept) lives records are.1 is)
   legal_then begun _ _ are is = absurd are
 
   pub begun_then : (begun : Begun Store) (lives : List (Life Op)) (records : List (LifeRecord Reply)) → AreLivesFrom m begun.place begun.store lives records
-      → begun_by m begun (lives ++ life ∷ []) (records ++ told ∷ []) ≡ begun_after m (begun_by m begun lives records) life told.journal told.kept
+      → begun_by m begun (lives ++ life ∷ []) (records ++ report ∷ []) ≡ begun_after m (begun_by m begun lives records) life report.journal report.kept
   begun_then begun [] [] are = refl
   begun_then begun (one ∷ lives) (first ∷ records) are = begun_then (begun_after m begun one first.journal first.kept) lives records are.1
   begun_then begun _ _ are = absurd are
@@ -62,24 +62,24 @@ IsLast m lines is_lawful records lives base = BeginsLife m lines is_lawful (begu
 
 module _ {Op Reply Store : Type 0} (m : Meaning Op Reply Store) (lines version : ℕ) (is_lawful : List ℕ → Type 0) (step : List ℕ → List ℕ → List ℕ × List ℕ) (reads : List ℕ → Bool) where
   -- one life more is told
-  told_then : (life : Life Op) (told : LifeRecord Reply) (trail : Ending) (end_ : LifeEnd) (begun : Begun Store) (base : Base) (lives : List (Life Op)) (records : List (LifeRecord Reply)) (trails : List Ending) (ends : List LifeEnd)
+  one_more_is_told : (life : Life Op) (report : LifeRecord Reply) (trail : Ending) (end_ : LifeEnd) (begun : Begun Store) (base : Base) (lives : List (Life Op)) (records : List (LifeRecord Reply)) (trails : List Ending) (ends : List LifeEnd)
       → AreToldFrom m lines version is_lawful step reads begun base lives records trails ends
-      → IsLifeAmong m lines version is_lawful step reads (begun_by m begun lives records) (base_behind base ends) life told trail end_.image end_.next
-      → AreToldFrom m lines version is_lawful step reads begun base (lives ++ life ∷ []) (records ++ told ∷ []) (trails ++ trail ∷ []) (ends ++ end_ ∷ [])
-  told_then life told trail end_ begun base [] [] [] [] are among = (among, tt)
-  told_then life told trail end_ begun base (one ∷ lives) (first ∷ records) (t ∷ trails) (e ∷ ends) are among =
-      (are.0, told_then life told trail end_ (begun_after m begun one first.journal first.kept) e.next lives records trails ends are.1 among)
-  told_then life told trail end_ begun base _ _ _ _ are among = absurd are
+      → IsLifeAmong m lines version is_lawful step reads (begun_by m begun lives records) (base_behind base ends) life report trail end_.image end_.next
+      → AreToldFrom m lines version is_lawful step reads begun base (lives ++ life ∷ []) (records ++ report ∷ []) (trails ++ trail ∷ []) (ends ++ end_ ∷ [])
+  one_more_is_told life report trail end_ begun base [] [] [] [] are among = (among, tt)
+  one_more_is_told life report trail end_ begun base (one ∷ lives) (first ∷ records) (t ∷ trails) (e ∷ ends) are among =
+      (are.0, one_more_is_told life report trail end_ (begun_after m begun one first.journal first.kept) e.next lives records trails ends are.1 among)
+  one_more_is_told life report trail end_ begun base _ _ _ _ are among = absurd are
 
   -- the runs of lives that are told are lives over crashes
   crashed_of : (begun : Begun Store) (base : Base) (lives : List (Life Op)) (records : List (LifeRecord Reply)) (trails : List Ending) (ends : List LifeEnd) (are : AreToldFrom m lines version is_lawful step reads begun base lives records trails ends)
       → AreCrashedLives step reads base (runs_of m lines version is_lawful step reads begun base lives records trails ends are)
   crashed_of begun base [] [] [] [] are = tt
-  crashed_of begun base (life ∷ lives) (told ∷ records) (trail ∷ trails) (end_ ∷ ends) are =
+  crashed_of begun base (life ∷ lives) (report ∷ records) (trail ∷ trails) (end_ ∷ ends) are =
       let one = are.0 in
-      let run = life_run one.told.order end_.image in
-      let rest = crashed_of (begun_after m begun life told.journal told.kept) end_.next lives records trails ends are.1 in
-      let runs = runs_of m lines version is_lawful step reads (begun_after m begun life told.journal told.kept) end_.next lives records trails ends are.1 in
+      let run = life_run one.witness.order end_.image in
+      let rest = crashed_of (begun_after m begun life report.journal report.kept) end_.next lives records trails ends are.1 in
+      let runs = runs_of m lines version is_lawful step reads (begun_after m begun life report.journal report.kept) end_.next lives records trails ends are.1 in
       (subst (λ b. IsCrashedLife step reads b run) one.began one.crashed, subst (λ b. AreCrashedLives step reads b runs) (one.next_is ∙ ap (λ b. next_base step reads b run) one.began) rest)
   crashed_of begun base _ _ _ _ are = absurd are
 
@@ -100,7 +100,7 @@ module _ {Op Reply Store : Type 0} (m : Meaning Op Reply Store) (lines version :
   start_anew : (begun : Begun Store) (first base : Base) (lives : List (Life Op)) (records : List (LifeRecord Reply)) (trails : List Ending) (ends : List LifeEnd) → AreToldFrom m lines version is_lawful step reads begun first lives records trails ends
       → None ≡ last_next None ends → AreToldFrom m lines version is_lawful step reads begun base lives records trails ends × (base ≡ base_behind base ends)
   start_anew begun first base [] [] [] [] are none = (tt, refl)
-  start_anew begun first base (life ∷ lives) (told ∷ records) (trail ∷ trails) (end_ ∷ ends) are none = absurd (none-some (base_behind end_.next ends) (none ∙ next_behind end_.next ends))
+  start_anew begun first base (life ∷ lives) (report ∷ records) (trail ∷ trails) (end_ ∷ ends) are none = absurd (none-some (base_behind end_.next ends) (none ∙ next_behind end_.next ends))
   start_anew begun first base _ _ _ _ are none = absurd are
 
   -- one that goes on is the base behind them
@@ -115,39 +115,39 @@ module _ {Op Reply Store : Type 0} (m : Meaning Op Reply Store) (lines version :
     each : AreToldFrom m lines version is_lawful step reads (nothing_begun m) first lives records trails ends
     behind : base ≡ base_behind first ends
 
-  started : (lives : List (Life Op)) (records : List (LifeRecord Reply)) (trails : List Ending) (told : AreTold m lines version is_lawful step reads lives records trails) (image : Option Image) (before : Option Base) (base : Base)
-      → before ≡ last_next None told.ends → HaveEnded m lines version is_lawful (begun_by m (nothing_begun m) lives records) lives image before → IsNextBase m lines is_lawful before base → Started lives records trails told.ends base
-  started lives records trails told None None base is ended next =
-      let anew = start_anew (nothing_begun m) told.first base lives records trails told.ends told.each is in
+  started : (lives : List (Life Op)) (records : List (LifeRecord Reply)) (trails : List Ending) (witness : AreTold m lines version is_lawful step reads lives records trails) (image : Option Image) (before : Option Base) (base : Base)
+      → before ≡ last_next None witness.ends → HaveEnded m lines version is_lawful (begun_by m (nothing_begun m) lives records) lives image before → IsNextBase m lines is_lawful before base → Started lives records trails witness.ends base
+  started lives records trails witness None None base is ended next =
+      let anew = start_anew (nothing_begun m) witness.first base lives records trails witness.ends witness.each is in
       record { first = base; begins = next; each = anew.0; behind = anew.1 }
-  started lives records trails told (Some image) (Some before) base is ended next =
-      record { first = told.first; begins = told.begins ended.0; each = told.each; behind = next ∙ goes_on told.first before told.ends is }
-  started lives records trails told _ _ base is ended next = absurd ended
+  started lives records trails witness (Some image) (Some before) base is ended next =
+      record { first = witness.first; begins = witness.begins ended.0; each = witness.each; behind = next ∙ goes_on witness.first before witness.ends is }
+  started lives records trails witness _ _ base is ended next = absurd ended
 
   -- the lives are lived with one more
   pub lived_then : ObjectLaws lines is_lawful step → (lives : List (Life Op)) (life : Life Op) (lived : Lived Reply) (base : Base) (ran : Ran Reply) → HaveLived m lines version is_lawful step reads lives lived
       → IsNextBase m lines is_lawful lived.base base → IsLast m lines is_lawful lived.records lives base → HasLived m lines version is_lawful step reads life (begun_by m (nothing_begun m) lives lived.records) base ran
-      → HaveLived m lines version is_lawful step reads (lives ++ life ∷ []) (record { records = lived.records ++ ran.told ∷ []; trails = lived.trails ++ ran.trail ∷ []; image = Some ran.image; base = Some ran.next })
+      → HaveLived m lines version is_lawful step reads (lives ++ life ∷ []) (record { records = lived.records ++ ran.report ∷ []; trails = lived.trails ++ ran.trail ∷ []; image = Some ran.image; base = Some ran.next })
   lived_then laws lives life lived base ran have is_next last has =
       let begun : Begun Store = begun_by m (nothing_begun m) lives lived.records in
-      let next : begun_by m (nothing_begun m) (lives ++ life ∷ []) (lived.records ++ ran.told ∷ []) ≡ begun_after m begun life ran.told.journal ran.told.kept =
-      begun_then m life ran.told (nothing_begun m) lives lived.records have.legal in
+      let next : begun_by m (nothing_begun m) (lives ++ life ∷ []) (lived.records ++ ran.report ∷ []) ≡ begun_after m begun life ran.report.journal ran.report.kept =
+      begun_then m life ran.report (nothing_begun m) lives lived.records have.legal in
       let long : 0 < length (lives ++ life ∷ []) = omega (arith, length-append lives (life ∷ [])) in
-      let s : Started lives lived.records lived.trails have.told.ends base = started lives lived.records lived.trails have.told lived.image lived.base base have.base_is have.ends is_next in
+      let s : Started lives lived.records lived.trails have.witness.ends base = started lives lived.records lived.trails have.witness lived.image lived.base base have.base_is have.ends is_next in
       let end_ : LifeEnd = record { image = ran.image; next = ran.next } in
-      let among = subst (λ (b : Base). IsLifeAmong m lines version is_lawful step reads begun b life ran.told ran.trail ran.image ran.next) s.behind has.among in
-      let each = told_then life ran.told ran.trail end_ (nothing_begun m) s.first lives lived.records lived.trails have.told.ends s.each among in
+      let among = subst (λ (b : Base). IsLifeAmong m lines version is_lawful step reads begun b life ran.report ran.trail ran.image ran.next) s.behind has.among in
+      let each = one_more_is_told life ran.report ran.trail end_ (nothing_begun m) s.first lives lived.records lived.trails have.witness.ends s.each among in
       record {
-        legal = legal_then m life ran.told (nothing_begun m) lives lived.records have.legal has.legal;
-        told = record {
+        legal = legal_then m life ran.report (nothing_begun m) lives lived.records have.legal has.legal;
+        witness = record {
           first = s.first;
           begins = λ some. s.begins;
-          ends = have.told.ends ++ end_ ∷ [];
+          ends = have.witness.ends ++ end_ ∷ [];
           each = each;
-          one = λ some. one_object laws s.first s.begins.0.lawful (lives ++ life ∷ []) (lived.records ++ ran.told ∷ []) (lived.trails ++ ran.trail ∷ []) (have.told.ends ++ end_ ∷ []) each;
+          one = λ some. one_object laws s.first s.begins.0.lawful (lives ++ life ∷ []) (lived.records ++ ran.report ∷ []) (lived.trails ++ ran.trail ∷ []) (have.witness.ends ++ end_ ∷ []) each;
         };
-        image_is = image_more None have.told.ends end_;
-        base_is = next_more None have.told.ends end_;
+        image_is = image_more None have.witness.ends end_;
+        base_is = next_more None have.witness.ends end_;
         ends = (long, has.among.recovered, subst (λ (b : Begun Store). BeginsLife m lines is_lawful b ran.next) (sym next) has.next, omega (arith, has.few, last.1, count_then lives life));
       }
 
@@ -155,7 +155,7 @@ module _ {Op Reply Store : Type 0} (m : Meaning Op Reply Store) (lines version :
   pub none_lived : HaveLived m lines version is_lawful step reads [] (record { records = []; trails = []; image = None; base = None })
   none_lived = record {
     legal = tt;
-    told = record { first = record { place = 0; words = [] }; begins = λ some. absurd (omega (arith, some)); ends = []; each = tt; one = λ some. absurd (omega (arith, some)) };
+    witness = record { first = record { place = 0; words = [] }; begins = λ some. absurd (omega (arith, some)); ends = []; each = tt; one = λ some. absurd (omega (arith, some)) };
     image_is = refl;
     base_is = refl;
     ends = refl;

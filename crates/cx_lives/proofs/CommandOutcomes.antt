@@ -69,10 +69,10 @@ module _ {O Op Reply Store : Type 0} (m : Meaning Op Reply Store) (life : Life O
     lists = serves_entry m life client n l es rs s number next op ws are named after.known.local new.entries.items new.reads.items answer notes.reply a.links a.answered notes.words notes.entries_are notes.reads_are;
   }
   entry_turned after new answer false a bad =
-      let told : Contains after.known.local.answered answer = rw a.answered (Contains-push l.answered answer) in
+      let among : Contains after.known.local.answered answer = rw a.answered (Contains-push l.answered answer) in
       let own : Contains after.known.local.own a.links.entry = rw a.links.own (Contains-push l.own a.links.entry) in
       never_turned after new (linked_in after answer.ticket a.caller.of a.links)
-      (inr (inl (record { answer = answer; there = told; entry = a.links.entry; linked = own; at = a.links.at; op = op; is = is_op a.links.entry.entry.op a.links.op_is; bad = bad.1 })))
+      (inr (inl (record { answer = answer; there = among; entry = a.links.entry; linked = own; at = a.links.at; op = op; is = is_op a.links.entry.entry.op a.links.op_is; bad = bad.1 })))
 
   -- the read was answered
   pub read_turned : length l.own ≡ length l.answered → (after : Seated) (new : Lines Reply) (seen : Seen) (is_reply : Bool) → AsksRead r ws before after seen → AddsClientRead m client number seen lines new is_reply → IsCommandOutcome m life r client number (attempt_after (record { caller = after; lines = new }) is_reply)
@@ -82,8 +82,8 @@ module _ {O Op Reply Store : Type 0} (m : Meaning Op Reply Store) (life : Life O
   }
   read_turned even after new seen false a bad =
       let x : SeenRead = record { place = seen.place; op = ws; reply = seen.reply; before = length l.answered } in
-      let told : Contains after.known.local.seen_reads x = rw a.reads (Contains-push l.seen_reads x) in
-      never_turned after new (still_in after a.caller.of a.number a.limit a.own) (inr (inr (record { read = x; there = told; op = op; is = is_op ws refl; bad = bad.1 })))
+      let among : Contains after.known.local.seen_reads x = rw a.reads (Contains-push l.seen_reads x) in
+      never_turned after new (still_in after a.caller.of a.number a.limit a.own) (inr (inr (record { read = x; there = among; op = op; is = is_op ws refl; bad = bad.1 })))
 
   -- there was no further ticket
   pub worn_turned : (after : Seated) → AsksWorn r before after → IsCommandOutcome m life r client number (attempt_after (record { caller = after; lines = lines }) false)

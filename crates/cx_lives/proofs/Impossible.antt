@@ -34,8 +34,8 @@ module _ {Op Reply Store : Type 0} (t : TypedSteps Op Reply Store) (life : Life 
 
     no_bad_answer : IsBadAnswer t.meaning w → ⊥
     no_bad_answer b =
-        let told = Contains-item w.answered b.answer b.there in
-        let is = (law.answers.each client w at).entries told.0 b.answer told.1 in
+        let answered = Contains-item w.answered b.answer b.there in
+        let is = (law.answers.each client w at).entries answered.0 b.answer answered.1 in
         let own = Contains-item w.own b.entry b.linked in
         let here : slice_get law.history (b.entry.ticket - instance.base.place) ≡ Some b.entry.entry =
         (own_at client instance.base.place law.history own.0 b.entry (ap (λ (o : List Linked). slice_get o own.0) (sym (law.tickets.merged.own client w at)) ∙ own.1)).1 in
@@ -60,7 +60,7 @@ module _ {Op Reply Store : Type 0} (t : TypedSteps Op Reply Store) (life : Life 
       let cannot : CannotBe t.meaning life h.client (shown w) = subst (CannotBe t.meaning life h.client) (sym at.2) h.is in
       elim cannot [
         | inl worn ↦ not_worn h.client w at.1 (record { front = worn.front; fewer = worn.fewer }) (λ i l there. few_whole i l there) tickets
-        | inr told ↦ elim told [
+        | inr bad ↦ elim bad [
           | inl answer ↦ no_bad_answer h.client w at.1 (record { answer = answer.answer; there = answer.there; entry = answer.entry; linked = answer.linked; at = answer.at; op = answer.op; is = answer.is; bad = answer.bad })
           | inr read ↦ no_bad_read h.client w at.1 (record { read = read.read; there = read.there; op = read.op; is = read.is; bad = read.bad })
         ]

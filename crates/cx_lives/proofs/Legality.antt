@@ -27,7 +27,7 @@ use Rattle.cx_lives.proofs.Recovering.{keeps_to}
 use Rattle.cx_lives.proofs.Entries.{few_entries}
 
 -- of a legal life, from what its parts say
-module _ {Op Reply Store : Type 0} (m : Meaning Op Reply Store) (lines : ℕ) (is_lawful : List ℕ → Type 0) (place : ℕ) (store : Store) (life : Life Op) (told flagged : LifeRecord Reply) (next : Base) (from : flagged.from ≡ place) (told_from : told.from ≡ place)
+module _ {Op Reply Store : Type 0} (m : Meaning Op Reply Store) (lines : ℕ) (is_lawful : List ℕ → Type 0) (place : ℕ) (store : Store) (life : Life Op) (report flagged : LifeRecord Reply) (next : Base) (from : flagged.from ≡ place) (report_from : report.from ≡ place)
     (ended : IsEnded life flagged) (has : HasReplies m place store life flagged) (goes : GoesOn m lines is_lawful place store life flagged next) where
   legal_of : IsLegal m place store life flagged
   legal_of = record {
@@ -44,41 +44,41 @@ module _ {Op Reply Store : Type 0} (m : Meaning Op Reply Store) (lines : ℕ) (i
     in_turn = has.in_turn;
   }
 
-  kept_of : (flagged.journal ≡ told.journal) → (kept : ℕ) → flagged.kept ≡ kept → All (λ line. (line.kept ≡ true) ↔ IsKeptStop told.from kept told.journal line) flagged.stops → IsPrefixKept m place store life flagged
+  kept_of : (flagged.journal ≡ report.journal) → (kept : ℕ) → flagged.kept ≡ kept → All (λ line. (line.kept ≡ true) ↔ IsKeptStop report.from kept report.journal line) flagged.stops → IsPrefixKept m place store life flagged
   kept_of journal kept kept_is flags = record {
     prefix = goes.prefix;
     answered = goes.answered;
     stops =
         subst (λ (j : List (JournalLine Reply)). All (λ line. (line.kept ≡ true) ↔ IsKeptStop place flagged.kept j line) flagged.stops) (sym journal)
-        (subst (λ (p : ℕ). All (λ line. (line.kept ≡ true) ↔ IsKeptStop p flagged.kept told.journal line) flagged.stops) told_from
-        (subst (λ (k : ℕ). All (λ line. (line.kept ≡ true) ↔ IsKeptStop told.from k told.journal line) flagged.stops) (sym kept_is) flags));
+        (subst (λ (p : ℕ). All (λ line. (line.kept ≡ true) ↔ IsKeptStop p flagged.kept report.journal line) flagged.stops) report_from
+        (subst (λ (k : ℕ). All (λ line. (line.kept ≡ true) ↔ IsKeptStop report.from k report.journal line) flagged.stops) (sym kept_is) flags));
     items = goes.items;
   }
 
-module _ {O Op Reply Store : Type 0} {o : Ghosts O} {m : Meaning Op Reply Store} {object : O} {base : Base} {life : Life Op} {begun : Begun Store} {service : Running O} {told flagged : LifeRecord Reply} {remains : Remains} {crashed : Crashed}
-    (based : IsBaseOf m base begun) (is : IsServiceOf object (o.line_count object) life.clients base service) (ran : HasRun m o.step o.only_reads life service told remains) (lost : HasLost o m object base life told remains crashed flagged)
-    (retold : (place : ℕ) (history : List Entry) (locals : List Local) → IsTold m.encoding life place history locals told → IsTold m.encoding life place history locals flagged) where
+module _ {O Op Reply Store : Type 0} {o : Ghosts O} {m : Meaning Op Reply Store} {object : O} {base : Base} {life : Life Op} {begun : Begun Store} {service : Running O} {report flagged : LifeRecord Reply} {remains : Remains} {crashed : Crashed}
+    (based : IsBaseOf m base begun) (is : IsServiceOf object (o.line_count object) life.clients base service) (ran : HasRun m o.step o.only_reads life service report remains) (lost : HasLost o m object base life report remains crashed flagged)
+    (flagged_is_told : (place : ℕ) (history : List Entry) (locals : List Local) → IsTold m.encoding life place history locals report → IsTold m.encoding life place history locals flagged) where
   abbrev crash : HasCrashed o object base life.choice remains crashed.image crashed.next
   crash = lost.ends.crash
 
   abbrev inst : Instance
   inst = object_instance (o.step object) (o.only_reads object) remains.callers base
 
-  told_from : told.from ≡ base.place
-  told_from = ran.is_told.from ∙ ap (λ (b : Base). b.place) is.from
+  report_from : report.from ≡ base.place
+  report_from = ran.is_told.from ∙ ap (λ (b : Base). b.place) is.from
 
   flagged_from : flagged.from ≡ base.place
-  flagged_from = lost.flags.same.from ∙ told_from
+  flagged_from = lost.flags.same.from ∙ report_from
 
   pub recorded : IsRecorded m inst crash.keeps.s crash.keeps.law.history begun.store life flagged
   recorded = record {
     locals = remains.trail.locals;
     seats = crash.keeps.shows;
-    stops = told.stops;
+    stops = report.stops;
     works = rw (lost.flags.same.journal, lost.flags.same.reads, lost.flags.same.fulls) ran.works;
     is_told =
         subst (λ (p : ℕ). IsTold m.encoding life p crash.keeps.law.history remains.trail.locals flagged) (ap (λ (b : Base). b.place) is.from)
-        (subst (λ (h : List Entry). IsTold m.encoding life service.base.place h remains.trail.locals flagged) (sym crash.keeps.history) (retold service.base.place remains.trail.history remains.trail.locals ran.is_told));
+        (subst (λ (h : List Entry). IsTold m.encoding life service.base.place h remains.trail.locals flagged) (sym crash.keeps.history) (flagged_is_told service.base.place remains.trail.history remains.trail.locals ran.is_told));
     stands = based.stands;
     limits = lost.limits;
     op_values = lost.op_values;
@@ -89,9 +89,9 @@ module _ {O Op Reply Store : Type 0} {o : Ghosts O} {m : Meaning Op Reply Store}
     abbrev linearized : IsLinearized m (o.line_count object) (o.lawful object) (o.step object) (o.only_reads object) life.clients remains.trail
     linearized = record { opening = opening; means = means; seats = ran.seats; remains = remains; closed = closed_table o.step o.only_reads is ran.leaves ran.order; trail_is = refl }
 
-    abbrev told_by : IsToldBy m (o.line_count object) (o.lawful object) (o.step object) (o.only_reads object) life remains.trail flagged
-    told_by = record {
-      is_told = subst (λ (b : Base). IsTold m.encoding life b.place remains.trail.history remains.trail.locals flagged) (sym ran.leaves.base) (retold service.base.place remains.trail.history remains.trail.locals ran.is_told);
+    abbrev is_told_by : IsToldBy m (o.line_count object) (o.lawful object) (o.step object) (o.only_reads object) life remains.trail flagged
+    is_told_by = record {
+      is_told = subst (λ (b : Base). IsTold m.encoding life b.place remains.trail.history remains.trail.locals flagged) (sym ran.leaves.base) (flagged_is_told service.base.place remains.trail.history remains.trail.locals ran.is_told);
       kept = lost.flags.kept_is ∙ keeps_to lost.ends (ran.leaves.callers ∙ is.callers_are) flagged_from;
       order = linearized;
     }
@@ -113,7 +113,7 @@ module _ {O Op Reply Store : Type 0} {o : Ghosts O} {m : Meaning Op Reply Store}
     among lawful_base =
         let there = subst (LawfulBase (o.line_count object) (o.lawful object)) (sym trail_base) lawful_base in
         record {
-          told = told_by;
+          witness = is_told_by;
           began = trail_base;
           based = subst (λ (b : Base). IsBaseOf m b begun) (sym trail_base) based;
           left = leaves_image;
@@ -124,19 +124,19 @@ module _ {O Op Reply Store : Type 0} {o : Ghosts O} {m : Meaning Op Reply Store}
 
   pub lived : (opening : List ℕ) → HasMeaning (o.lawful object) opening (o.step object) (o.only_reads object) m → LawfulBase (o.line_count object) (o.lawful object) base → IsEnded life flagged → HasReplies m base.place begun.store life flagged
       → GoesOn m (o.line_count object) (o.lawful object) base.place begun.store life flagged crashed.next → IsBaseOf m crashed.next (begun_after m begun life flagged.journal flagged.kept)
-      → HasLivedOver o object m life begun base (record { told = flagged; trail = remains.trail; image = crashed.image; next = crashed.next })
+      → HasLivedOver o object m life begun base (record { report = flagged; trail = remains.trail; image = crashed.image; next = crashed.next })
   lived opening means lawful_base ended has goes begins =
       let has' : HasReplies m begun.place begun.store life flagged = subst (λ (p : ℕ). HasReplies m p begun.store life flagged) based.at_place has in
       let goes' : GoesOn m (o.line_count object) (o.lawful object) begun.place begun.store life flagged crashed.next = subst (λ (p : ℕ). GoesOn m (o.line_count object) (o.lawful object) p begun.store life flagged crashed.next) based.at_place goes in
       let from : flagged.from ≡ begun.place = flagged_from ∙ based.at_place in
-      let begun_from : told.from ≡ begun.place = told_from ∙ based.at_place in
+      let begun_from : report.from ≡ begun.place = report_from ∙ based.at_place in
       record {
         legal = record {
           clients = lost.flags.same.clients ∙ ran.is_told.clients ∙ ran.is_told.callers;
           choice = lost.flags.choice ∙ ran.choice;
           from = from;
-          legal = legal_of m (o.line_count object) (o.lawful object) begun.place begun.store life told flagged crashed.next from begun_from ended has' goes';
-          kept = kept_of m (o.line_count object) (o.lawful object) begun.place begun.store life told flagged crashed.next from begun_from ended has' goes' lost.flags.same.journal crashed.kept lost.flags.kept_is lost.flags.stops;
+          legal = legal_of m (o.line_count object) (o.lawful object) begun.place begun.store life report flagged crashed.next from begun_from ended has' goes';
+          kept = kept_of m (o.line_count object) (o.lawful object) begun.place begun.store life report flagged crashed.next from begun_from ended has' goes' lost.flags.same.journal crashed.kept lost.flags.kept_is lost.flags.stops;
         };
         among = among opening means lawful_base;
         next = record { lawful = goes.lawful; is = begins };

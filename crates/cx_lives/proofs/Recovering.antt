@@ -53,8 +53,8 @@ module _ {O : Type 0} {o : Ghosts O} {object : O} {base : Base} {remains : Remai
             to = subst (λ (es : List Entry). next.place ≤ has.service.base.place + length es) (sym has.leaves.history) by.to;
             long = by.again.size.long ∙ sym opened.base.size.long;
             full = λ i within. ap (λ (ws : List ℕ). slice_index ws i) (by.words ∙ ap (λ (es : List Entry). full_image (o.step has.service.object) has.service.base es next.place) (sym has.leaves.history));
-            answered = λ c l at i x told. subst (λ (p : ℕ). x.ticket < p) place (rec.answered c l at i x told);
-            reads = λ c l at i x told. subst (λ (p : ℕ). x.place ≤ p) place (rec.reads c l at i x told);
+            answered = λ c l at i x there. subst (λ (p : ℕ). x.ticket < p) place (rec.answered c l at i x there);
+            reads = λ c l at i x there. subst (λ (p : ℕ). x.place ≤ p) place (rec.reads c l at i x there);
           };
         }
 
@@ -72,6 +72,6 @@ module _ {O Op Reply Store : Type 0} {o : Ghosts O} {m : Meaning Op Reply Store}
       ∙ ap₂ (λ (p q : ℕ). p - q) (ends.crash.place ∙ ap (λ (n : ℕ). root_place_of n (slice_index remains.trail.chain (choice % length remains.trail.chain))) callers_are) (sym from_is)
 
   -- a record with the numbers of the crash says them of the base
-  pub kept_in : (told : LifeRecord Reply) → told.kept ≡ crashed.kept → told.items ≡ crashed.items →
-      IsKeptIn m (object_instance (o.step object) (o.only_reads object) remains.callers base) ends.crash.keeps.s ends.crash.keeps.law.history told crashed.next
-  kept_in told kept items = record { image = ends.crash.keeps.kept; kept = kept ∙ ends.kept_is; items = λ store stands. items ∙ ends.items_are store stands }
+  pub kept_in : (report : LifeRecord Reply) → report.kept ≡ crashed.kept → report.items ≡ crashed.items →
+      IsKeptIn m (object_instance (o.step object) (o.only_reads object) remains.callers base) ends.crash.keeps.s ends.crash.keeps.law.history report crashed.next
+  kept_in report kept items = record { image = ends.crash.keeps.kept; kept = kept ∙ ends.kept_is; items = λ store stands. items ∙ ends.items_are store stands }

@@ -109,16 +109,16 @@ module _ {Op Reply Store : Type 0} (m : Meaning Op Reply Store) (life : Life Op)
           → m.encoding.reply_words reply ≡ answer.reply → es' ≡ es ++ record { ticket = answer.ticket; client = client; command = number; reply = Some reply } ∷ [] → rs' ≡ rs → HasServed m life client number l' es' rs'
       serves_entry l' es' rs' answer reply links answered words entries reads =
           let line : JournalLine Reply = record { ticket = answer.ticket; client = client; command = number; reply = Some reply } in
-          let told : Answer = record { ticket = answer.ticket; reply = answer.reply } in
-          let all : List Answer = l.answered ++ told ∷ [] in
-          let is_told : record { ticket = answer.ticket; reply = m.encoding.reply_words reply } ≡ told = ap (λ (r : List ℕ). (let a : Answer = record { ticket = answer.ticket; reply = r } in a)) words in
-          let has : IsReplyAt m.encoding all answer.ticket (Some reply) = subst (Contains all) (sym is_told) (Contains-push l.answered told) in
+          let added : Answer = record { ticket = answer.ticket; reply = answer.reply } in
+          let all : List Answer = l.answered ++ added ∷ [] in
+          let is_added : record { ticket = answer.ticket; reply = m.encoding.reply_words reply } ≡ added = ap (λ (r : List ℕ). (let a : Answer = record { ticket = answer.ticket; reply = r } in a)) words in
+          let has : IsReplyAt m.encoding all answer.ticket (Some reply) = subst (Contains all) (sym is_added) (Contains-push l.answered added) in
           let new : IsAnsweredLine m life client all links.entry line = (
             record { ticket = sym links.at; by = links.by ∙ s.by; client_is = refl; op = has_words links.entry.entry.op links.op_is; reply = has },
             refl,
           ) in
           let still : (x : Linked) (e : JournalLine Reply) → IsAnsweredLine m life client l.answered x e → IsAnsweredEntry n e → IsAnsweredLine m life client all x e =
-          λ x e h done. (record { ticket = h.0.ticket; by = h.0.by; client_is = h.0.client_is; op = h.0.op; reply = reply_stays m l.answered (told ∷ []) e.ticket e.reply h.1 h.0.reply }, h.1) in
+          λ x e h done. (record { ticket = h.0.ticket; by = h.0.by; client_is = h.0.client_is; op = h.0.op; reply = reply_stays m l.answered (added ∷ []) e.ticket e.reply h.1 h.0.reply }, h.1) in
           let zip : AllZip (IsAnsweredLine m life client all) (l.own ++ links.entry ∷ []) (es ++ line ∷ []) =
           all_zipped_more (IsAnsweredLine m life client all) l.own es links.entry line (zip_with (IsAnsweredLine m life client l.answered) (IsAnsweredLine m life client all) (IsAnsweredEntry n) still l.own es s.entry_lines s.entries_done) new in
           record {
@@ -232,7 +232,7 @@ module _ {Op Reply Store : Type 0} (m : Meaning Op Reply Store) (life : Life Op)
             record {
               by = same_number ∙ s.by;
               entry_lines = rw (answered ∙ sym (append-nil l.answered), own, entries) (lines_stay []);
-              read_lines = record { told = l.seen_reads; left = left.0; are = left.1; lines_are = rw lines s.read_lines; few = left.2; stopped = left.3 };
+              read_lines = record { reported = l.seen_reads; left = left.0; are = left.1; lines_are = rw lines s.read_lines; few = left.2; stopped = left.3 };
               between = rw (entries, lines) s.between;
               entries_in_turn = rw entries s.entries_in_turn;
               reads_in_turn = rw lines s.reads_in_turn;
@@ -262,7 +262,7 @@ module _ {Op Reply Store : Type 0} (m : Meaning Op Reply Store) (life : Life Op)
             record {
               by = links.number ∙ s.by;
               entry_lines = rw (answered, links.own, entries) (all_zipped_more (IsLineOf m.encoding life client (l.answered ++ more) (Some stop)) l.own es links.entry line (lines_stay more) new);
-              read_lines = record { told = l.seen_reads; left = []; are = links.reads ∙ sym (append-nil l.seen_reads); lines_are = rw lines s.read_lines; few = omega arith; stopped = All-nil (IsStoppedRead m.encoding life client (Some stop)) };
+              read_lines = record { reported = l.seen_reads; left = []; are = links.reads ∙ sym (append-nil l.seen_reads); lines_are = rw lines s.read_lines; few = omega arith; stopped = All-nil (IsStoppedRead m.encoding life client (Some stop)) };
               between = rw (entries, lines) (between_all line refl);
               entries_in_turn = rw entries (in_turn line refl);
               reads_in_turn = rw lines s.reads_in_turn;
@@ -282,7 +282,7 @@ module _ {Op Reply Store : Type 0} (m : Meaning Op Reply Store) (life : Life Op)
   ended_answered full within end = record {
     by = s.by;
     entry_lines = zip_with (IsAnsweredLine m life client l.answered) (IsLineOf m.encoding life client l.answered None) (IsAnsweredEntry n) (λ x e h done. h.0) l.own es s.entry_lines s.entries_done;
-    read_lines = record { told = l.seen_reads; left = []; are = sym (append-nil l.seen_reads); lines_are = s.read_lines; few = omega arith; stopped = All-nil (IsStoppedRead m.encoding life client None) };
+    read_lines = record { reported = l.seen_reads; left = []; are = sym (append-nil l.seen_reads); lines_are = s.read_lines; few = omega arith; stopped = All-nil (IsStoppedRead m.encoding life client None) };
     between = s.between;
     entries_in_turn = s.entries_in_turn;
     reads_in_turn = s.reads_in_turn;

@@ -30,15 +30,15 @@ pub record CanRun {O Op Reply Store : Type 0} (m : Meaning Op Reply Store) (life
 
 -- What is recorded of a life that ran, before the crash: the record agrees with the table that was closed with these seats, and its lines are those
 -- of the callers' lists.
-pub record HasRun {O Op Reply Store : Type 0} (m : Meaning Op Reply Store) (step : O → List ℕ → List ℕ → List ℕ × List ℕ) (reads : O → List ℕ → Bool) (life : Life Op) (r : Running O) (told : LifeRecord Reply) (remains : Remains) : Type 0 where
+pub record HasRun {O Op Reply Store : Type 0} (m : Meaning Op Reply Store) (step : O → List ℕ → List ℕ → List ℕ × List ℕ) (reads : O → List ℕ → Bool) (life : Life Op) (r : Running O) (report : LifeRecord Reply) (remains : Remains) : Type 0 where
   -- the callers as they ended, with whom the service was closed
   pub seats : List Seated
   pub are : AreSeats r seats
   pub leaves : ClosingWitness r (instance_at r step reads) seats remains
   -- by the order of their steps, which are those of the closing, the history is a linearization
   pub order : IsLinearizedBy leaves
-  pub is_told : IsTold m.encoding life r.base.place remains.trail.history remains.trail.locals told
-  pub works : AreWorks m.encoding life remains.trail.locals told.journal told.reads told.stops told.fulls
-  pub choice : told.choice ≡ life.choice
-  pub kept : told.kept ≡ 0
-  pub items : told.items ≡ 0
+  pub is_told : IsTold m.encoding life r.base.place remains.trail.history remains.trail.locals report
+  pub works : AreWorks m.encoding life remains.trail.locals report.journal report.reads report.stops report.fulls
+  pub choice : report.choice ≡ life.choice
+  pub kept : report.kept ≡ 0
+  pub items : report.items ≡ 0

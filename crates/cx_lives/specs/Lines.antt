@@ -5,7 +5,7 @@ use Rattle.cx_attempts.specs.declared.lookup.Seen.{Seen}
 use Rattle.life_records.specs.Records.{AreOfNoReply, Meaning}
 use Rattle.cx_lives.specs.declared.lines.Lines.{Lines}
 
--- one entry's line more
+-- The lines of a client are one entry's more: that of its command of this number, with the reply that has the answer's words.
 pub record NotesEntryLine {Op Reply Store : Type 0} (m : Meaning Op Reply Store) (client number : ℕ) (answer : Answer) (before after : Lines Reply) : Type 0 where
   pub reply : Reply
   pub words : m.encoding.reply_words reply ≡ answer.reply

@@ -51,9 +51,9 @@ pub record IsLinearized {Op Reply Store : Type 0} (m : Meaning Op Reply Store) (
 -- A record of a life is witnessed by the execution log of its service, whose callers are the clients, and whose history is a linearization of their commands. The life's choice takes
 -- the code whose place ends what was kept, from the codes with which the service ended, in rising order.
 pub record IsToldBy {Op Reply Store : Type 0} (m : Meaning Op Reply Store) (lines : ℕ) (is_lawful : List ℕ → Type 0) (step : List ℕ → List ℕ → List ℕ × List ℕ) (reads : List ℕ → Bool)
-    (life : Life Op) (trail : Ending) (told : LifeRecord Reply) : Type 0 where
-  pub is_told : IsTold m.encoding life trail.base.place trail.history trail.locals told
-  pub kept : told.kept ≡ root_place_of life.clients (slice_index trail.chain (life.choice % length trail.chain)) - told.from
+    (life : Life Op) (trail : Ending) (report : LifeRecord Reply) : Type 0 where
+  pub is_told : IsTold m.encoding life trail.base.place trail.history trail.locals report
+  pub kept : report.kept ≡ root_place_of life.clients (slice_index trail.chain (life.choice % length trail.chain)) - report.from
   pub order : IsLinearized m lines is_lawful step reads life.clients trail
 
 -- a base from which a service of the object may start, that is what a life begins with
@@ -75,20 +75,20 @@ CanBeginOver o object m = CanBegin m (o.line_count object) (o.lawful object)
 
 -- the record with these numbers of entries kept and of items, in which a stop line says kept exactly where its command has an
 -- entry that is kept
-pub record HasFlags {Reply : Type 0} (told : LifeRecord Reply) (kept items : ℕ) (flagged : LifeRecord Reply) : Type 0 where
-  pub same : IsSameButKept told flagged
-  pub stops : All (IsFlagged told.from kept told.journal) flagged.stops
-  pub choice : flagged.choice ≡ told.choice
+pub record HasFlags {Reply : Type 0} (report : LifeRecord Reply) (kept items : ℕ) (flagged : LifeRecord Reply) : Type 0 where
+  pub same : IsSameButKept report flagged
+  pub stops : All (IsFlagged report.from kept report.journal) flagged.stops
+  pub choice : flagged.choice ≡ report.choice
   pub kept_is : flagged.kept ≡ kept
   pub items_are : flagged.items ≡ items
 
 -- A life that ran from a base ended in a crash by its choice, and the record says what was kept.
-pub record HasLost {O Op Reply Store : Type 0} (o : Ghosts O) (m : Meaning Op Reply Store) (object : O) (base : Base) (life : Life Op) (told : LifeRecord Reply)
+pub record HasLost {O Op Reply Store : Type 0} (o : Ghosts O) (m : Meaning Op Reply Store) (object : O) (base : Base) (life : Life Op) (report : LifeRecord Reply)
     (remains : Remains) (crashed : Crashed) (flagged : LifeRecord Reply) : Type 0 where
   pub limits : IsLifeInLimits m.is_op 8 life
   pub op_values : HasOpValues m life
   pub ends : EndsInCrash o m object base life.choice remains crashed
-  pub flags : HasFlags told crashed.kept crashed.items flagged
+  pub flags : HasFlags report crashed.kept crashed.items flagged
   pub values : HasReplyValues m flagged
 
 -- An image that may be read for an object of this many lines. By the choice a crash left it of the table of this trail, which was closed so.
@@ -113,22 +113,22 @@ life_run {step = step} {reads = reads} {callers = callers} {trail = trail} by im
 -- kept. The life's crash left this image of what that service was when it was closed, and from this very image the base was recovered that a next life begins
 -- with: what the core's definitions recover of the crash image of that run.
 pub record IsLifeAmong {Op Reply Store : Type 0} (m : Meaning Op Reply Store) (lines version : ℕ) (is_lawful : List ℕ → Type 0) (step : List ℕ → List ℕ → List ℕ × List ℕ) (reads : List ℕ → Bool)
-    (begun : Begun Store) (base : Base) (life : Life Op) (record_of : LifeRecord Reply) (trail : Ending) (image : Image) (next : Base) : Type 0 where
-  pub told : IsToldBy m lines is_lawful step reads life trail record_of
+    (begun : Begun Store) (base : Base) (life : Life Op) (report : LifeRecord Reply) (trail : Ending) (image : Image) (next : Base) : Type 0 where
+  pub witness : IsToldBy m lines is_lawful step reads life trail report
   pub began : trail.base ≡ base
   pub based : IsBaseOf m trail.base begun
-  pub left : LeavesImage told.order life.choice image
+  pub left : LeavesImage witness.order life.choice image
   pub recovered : IsRecovered version is_lawful no_old_format image next
-  pub crashed : IsCrashedLife step reads trail.base (life_run told.order image)
-  pub next_is : next ≡ next_base step reads trail.base (life_run told.order image)
+  pub crashed : IsCrashedLife step reads trail.base (life_run witness.order image)
+  pub next_is : next ≡ next_base step reads trail.base (life_run witness.order image)
 
 -- The result of one life that begins so: a record of a legal life, one among others that began with this base; and the next life's base, which is recovered from
 -- what its crash left.
 pub record HasLived {Op Reply Store : Type 0} (m : Meaning Op Reply Store) (lines version : ℕ) (is_lawful : List ℕ → Type 0) (step : List ℕ → List ℕ → List ℕ × List ℕ) (reads : List ℕ → Bool)
     (life : Life Op) (begun : Begun Store) (base : Base) (ran : Ran Reply) : Type 0 where
-  pub legal : IsLegalLife m begun.place begun.store life ran.told
-  pub among : IsLifeAmong m lines version is_lawful step reads begun base life ran.told ran.trail ran.image ran.next
-  pub next : BeginsLife m lines is_lawful (begun_after m begun life ran.told.journal ran.told.kept) ran.next
+  pub legal : IsLegalLife m begun.place begun.store life ran.report
+  pub among : IsLifeAmong m lines version is_lawful step reads begun base life ran.report ran.trail ran.image ran.next
+  pub next : BeginsLife m lines is_lawful (begun_after m begun life ran.report.journal ran.report.kept) ran.next
   pub few : ran.next.place ≤ base.place + length life.commands
 
 -- a life has been run over this object, whose lines, version, lawful words and steps are meant
@@ -139,7 +139,7 @@ HasLivedOver o object m = HasLived m (o.line_count object) (o.version_number obj
 abbrev pub begun_by : {Op Reply Store : Type 0} → Meaning Op Reply Store → Begun Store → List (Life Op) → List (LifeRecord Reply) → Begun Store
 begun_by m begun [] records = begun
 begun_by m begun (life ∷ lives) [] = begun
-begun_by m begun (life ∷ lives) (told ∷ records) = begun_by m (begun_after m begun life told.journal told.kept) lives records
+begun_by m begun (life ∷ lives) (report ∷ records) = begun_by m (begun_after m begun life report.journal report.kept) lives records
 
 -- what the crash at the end of a life left, and the base that was recovered from it
 pub record LifeEnd : Type 0 where
@@ -151,16 +151,16 @@ pub record LifeEnd : Type 0 where
 abbrev pub AreToldFrom : {Op Reply Store : Type 0} → Meaning Op Reply Store → ℕ → ℕ → (List ℕ → Type 0) → (List ℕ → List ℕ → List ℕ × List ℕ) → (List ℕ → Bool) → Begun Store → Base
     → List (Life Op) → List (LifeRecord Reply) → List Ending → List LifeEnd → Type 0
 AreToldFrom m lines version is_lawful step reads begun base [] [] [] [] = Unit {0}
-AreToldFrom m lines version is_lawful step reads begun base (life ∷ lives) (told ∷ records) (trail ∷ trails) (end_ ∷ ends) =
-    IsLifeAmong m lines version is_lawful step reads begun base life told trail end_.image end_.next
-    × AreToldFrom m lines version is_lawful step reads (begun_after m begun life told.journal told.kept) end_.next lives records trails ends
+AreToldFrom m lines version is_lawful step reads begun base (life ∷ lives) (report ∷ records) (trail ∷ trails) (end_ ∷ ends) =
+    IsLifeAmong m lines version is_lawful step reads begun base life report trail end_.image end_.next
+    × AreToldFrom m lines version is_lawful step reads (begun_after m begun life report.journal report.kept) end_.next lives records trails ends
 AreToldFrom m lines version is_lawful step reads begun base _ _ _ _ = ⊥
 
 -- the runs of their services, each with what the crash left of it
 abbrev pub runs_of : {Op Reply Store : Type 0} (m : Meaning Op Reply Store) (lines version : ℕ) (is_lawful : List ℕ → Type 0) (step : List ℕ → List ℕ → List ℕ × List ℕ) (reads : List ℕ → Bool) (begun : Begun Store) (base : Base)
     (lives : List (Life Op)) (records : List (LifeRecord Reply)) (trails : List Ending) (ends : List LifeEnd) → AreToldFrom m lines version is_lawful step reads begun base lives records trails ends → List LifeRun
-runs_of m lines version is_lawful step reads begun base (life ∷ lives) (told ∷ records) (trail ∷ trails) (end_ ∷ ends) are =
-    life_run are.0.told.order end_.image ∷ runs_of m lines version is_lawful step reads (begun_after m begun life told.journal told.kept) end_.next lives records trails ends are.1
+runs_of m lines version is_lawful step reads begun base (life ∷ lives) (report ∷ records) (trail ∷ trails) (end_ ∷ ends) are =
+    life_run are.0.witness.order end_.image ∷ runs_of m lines version is_lawful step reads (begun_after m begun life report.journal report.kept) end_.next lives records trails ends are.1
 runs_of m lines version is_lawful step reads begun base _ _ _ _ are = []
 
 -- Runs, together, are one durable object. Each began with what is recovered of what a crash left of the one before, the first with this base. What the crashes
@@ -208,9 +208,9 @@ HaveEnded m lines version is_lawful begun lives _ _ = ⊥
 pub record HaveLived {Op Reply Store : Type 0} (m : Meaning Op Reply Store) (lines version : ℕ) (is_lawful : List ℕ → Type 0) (step : List ℕ → List ℕ → List ℕ × List ℕ) (reads : List ℕ → Bool)
     (lives : List (Life Op)) (lived : Lived Reply) : Type 0 where
   pub legal : AreLivesFrom m 0 m.opening lives lived.records
-  pub told : AreTold m lines version is_lawful step reads lives lived.records lived.trails
-  pub image_is : lived.image ≡ last_image None told.ends
-  pub base_is : lived.base ≡ last_next None told.ends
+  pub witness : AreTold m lines version is_lawful step reads lives lived.records lived.trails
+  pub image_is : lived.image ≡ last_image None witness.ends
+  pub base_is : lived.base ≡ last_next None witness.ends
   pub ends : HaveEnded m lines version is_lawful (begun_by m (nothing_begun m) lives lived.records) lives lived.image lived.base
 
 -- the lives of a script have been run over this object, whose lines, version, lawful words and steps are meant

@@ -17,7 +17,7 @@ pub record IsClientLeft {O Op Reply Store : Type 0} (m : Meaning Op Reply Store)
   pub count : left.number ≡ length (own_ops client (take left.at life.commands))
   pub few : left.number ≤ left.at
 
--- one that would end Full in its next command, with this line
+-- A client is left in a command in which it would end Full, with this line.
 pub record IsFullLeft {O Op Reply Store : Type 0} (m : Meaning Op Reply Store) (life : Life Op) (r : Running O) (client : ℕ) (left : Left Reply) (line : FullLine) : Type 0 where
   pub left_is : IsClientLeft m life r client left
   pub full : IsFullOf life client left.number left.progress.caller.known.local line
@@ -38,11 +38,11 @@ AreResultsFrom IsOf client [] = Unit {0}
 AreResultsFrom IsOf client (work ∷ works) = IfOk work (IsOf client) × AreResultsFrom IsOf (client + 1) works
 
 -- the stop line in a worker's result, where its client was stopped
-abbrev pub stop_told : {Reply : Type 0} → Result (WorkerOutcome Reply) AllocError → List StopLine
-stop_told (Ok (Done work)) = stop_in work.end
-stop_told _ = []
+abbrev pub stop_of_worker : {Reply : Type 0} → Result (WorkerOutcome Reply) AllocError → List StopLine
+stop_of_worker (Ok (Done work)) = stop_in work.end
+stop_of_worker _ = []
 
 -- the stop lines in the results of workers, in order
 abbrev pub stops_left : {Reply : Type 0} → List (Result (WorkerOutcome Reply) AllocError) → List StopLine
 stops_left [] = []
-stops_left (work ∷ works) = stop_told work ++ stops_left works
+stops_left (work ∷ works) = stop_of_worker work ++ stops_left works

@@ -5,7 +5,7 @@ ghost use Rattle.life_records.specs.Limits.{IsLifeInLimits};
 ghost use Rattle.life_records.specs.Lives.{is_stopped};
 ghost use Rattle.cx_lives.specs.Ends.{IsWorkOf, full_in, stop_in};
 ghost use Rattle.cx_lives.specs.Gathering.{AddsWork, AreGathered, is_impossible};
-ghost use Rattle.cx_lives.specs.Works.{AreResultsFrom, ServedOf, stop_told, stops_left};
+ghost use Rattle.cx_lives.specs.Works.{AreResultsFrom, ServedOf, stop_of_worker, stops_left};
 
 use crate::lines::Lines;
 use crate::progress::{End, Work};
@@ -140,7 +140,7 @@ fn at_end<O: TypedObject, R: Wait, G: Gate>(
     requires served { (client : ℕ) × ServedOf (O.meaning service.now.object) life.now service.now client served }
     requires life { IsLifeInLimits (O.meaning service.now.object).is_op 8 life.now }
     ensures work { (client : ℕ) → ServedOf (O.meaning service.now.object) life.now service.now client served → IfOk result (IsWorkOf (O.meaning service.now.object) life.now service.now client) }
-    ensures told { IfOk result (λ work. (client : ℕ) → is_stopped client (stop_told (Ok served)) ≡ true → is_stopped client (stop_in work.end) ≡ true) }
+    ensures stays_stopped { IfOk result (λ work. (client : ℕ) → is_stopped client (stop_of_worker (Ok served)) ≡ true → is_stopped client (stop_in work.end) ≡ true) }
     ensures stopped { IfOk result (λ work. All (λ line. is_stopped line.note.holder (stops.now ++ stops_left rest.now) ≡ true) (full_in work.end)) }
 {
     match served {

@@ -72,7 +72,7 @@ pub fn run_life<O: TypedObject + Sync, R: Threads + Wait + Sync, G: Gate + Sync>
     }
     let clients = life.clients();
     let choice = life.choice();
-    let told = LifeRecord {
+    let report = LifeRecord {
         clients,
         from: remains.first,
         journal: Items::of(entries),
@@ -83,7 +83,7 @@ pub fn run_life<O: TypedObject + Sync, R: Threads + Wait + Sync, G: Gate + Sync>
         kept: 0,
         items: 0,
     };
-    Ok((told, remains))
+    Ok((report, remains))
 }
 
 /// The law that the steps of the service's object are what its operations mean.

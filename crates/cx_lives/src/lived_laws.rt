@@ -16,13 +16,13 @@ use typed_object::TypedObject;
 /// begins the next one.
 pub(crate) fn lives_that_ran_have_lived<O: TypedObject>(object: &O, base: &Base)
     requires { LawfulBase (O.line_count object.now) (O.lawful object.now) base.now }
-    ensures { (life : Life O.Op) (begun : Begun O.Store) (service : Running O) (told flagged : LifeRecord O.Reply) (remains : _) (crashed : _) →
+    ensures { (life : Life O.Op) (begun : Begun O.Store) (service : Running O) (report flagged : LifeRecord O.Reply) (remains : _) (crashed : _) →
         IsBaseOf (O.meaning object.now) base.now begun →
         IsServiceOf object.now (O.line_count object.now) life.clients base.now service →
-        HasRun (O.meaning object.now) O.step O.only_reads life service told remains →
-        HasLost O.Object (O.meaning object.now) object.now base.now life told remains crashed flagged →
+        HasRun (O.meaning object.now) O.step O.only_reads life service report remains →
+        HasLost O.Object (O.meaning object.now) object.now base.now life report remains crashed flagged →
         HasLivedOver O.Object object.now (O.meaning object.now) life begun base.now
-        (record { told = flagged; trail = remains.trail; image = crashed.image; next = crashed.next }) }
+        (record { report = flagged; trail = remains.trail; image = crashed.image; next = crashed.next }) }
 {
     // each reply is the one-thread store's at its place, and a client's answers stand in rising places
     replies_are_the_stores(object, base);

@@ -42,7 +42,7 @@ pub struct Lived<Reply> {
 /// The result of one life: its record, the trail of its service, the image that the crash left, and the base that was recovered from it.
 #[derive(Drop)]
 pub(crate) struct Ran<Reply> {
-    pub(crate) told: LifeRecord<Reply>,
+    pub(crate) report: LifeRecord<Reply>,
     pub(crate) trail: Trail,
     pub(crate) image: Image,
     pub(crate) next: Base,
@@ -112,14 +112,14 @@ pub fn run_next_life<O: TypedObject + Sync, R: Threads + Wait + Sync, G: Gate + 
     } = lived;
     let base = next_base(alloc, object, base)?;
     let Ran {
-        told,
+        report,
         trail,
         image,
         next,
     } = run_one(rt, alloc, object, &base, life, gate)?;
     // the object's steps are what its operations mean: so the lives so far and this one are lives of one object
     steps_are_meant(object);
-    records.push(told)?;
+    records.push(report)?;
     trails.push(trail)?;
     Ok(Lived {
         records,
@@ -169,10 +169,10 @@ fn run_one<O: TypedObject + Sync, R: Threads + Wait + Sync, G: Gate + Sync>(
     ensures { (begun : Begun O.Store) → IsBaseOf (O.meaning object.now) base.now begun → IfOk result (HasLivedOver O.Object object.now (O.meaning object.now) life.now begun base.now) }
 {
     let (service, callers) = start_life(alloc, object, life, base)?;
-    let (told, remains) = run_life(rt, alloc, service, callers, life, gate)?;
+    let (report, remains) = run_life(rt, alloc, service, callers, life, gate)?;
     let crashed = end_in_crash(alloc, object, base, life.choice(), &remains)?;
     let _memory = reopen_image(alloc, &crashed.image)?;
-    let flagged = with_kept(told, crashed.kept, crashed.items);
+    let flagged = with_kept(report, crashed.kept, crashed.items);
     // each operation of the life is a value of its type
     operations_are_values(object, life);
     // each reply of the record is a value of its type
@@ -180,7 +180,7 @@ fn run_one<O: TypedObject + Sync, R: Threads + Wait + Sync, G: Gate + Sync>(
     // the record is one of a legal life, and the recovered base begins the next one
     lives_that_ran_have_lived(object, base);
     Ok(Ran {
-        told: flagged,
+        report: flagged,
         trail: remains.trail,
         image: crashed.image,
         next: crashed.next,
@@ -188,15 +188,15 @@ fn run_one<O: TypedObject + Sync, R: Threads + Wait + Sync, G: Gate + Sync>(
 }
 
 /// The record `told` with its numbers of kept entries and of items filled in, and with the kept flag of each of its stop lines.
-fn with_kept<Reply: Drop>(told: LifeRecord<Reply>, kept: u64, items: u64) -> LifeRecord<Reply>
-    ensures { HasFlags told kept items result }
+fn with_kept<Reply: Drop>(report: LifeRecord<Reply>, kept: u64, items: u64) -> LifeRecord<Reply>
+    ensures { HasFlags report kept items result }
 {
-    let mut stops = told.stops.into_vec();
-    flag_stops(told.journal.as_slice(), told.from, kept, &mut stops);
+    let mut stops = report.stops.into_vec();
+    flag_stops(report.journal.as_slice(), report.from, kept, &mut stops);
     LifeRecord {
         stops: Items::of(stops),
         kept,
         items,
-        ..told
+        ..report
     }
 }

@@ -6,7 +6,7 @@ ghost use Rattle.life_records.specs.Lives.{is_stopped};
 ghost use Rattle.cx_lives.specs.declared.progress.End.TheVariants.{Full};
 ghost use Rattle.cx_lives.specs.Ends.{IsNewIn, IsWorkOf, full_in};
 ghost use Rattle.cx_lives.specs.Turns.{ended};
-ghost use Rattle.cx_lives.specs.Works.{IsClientLeft, ServedOf, stop_told, stops_left};
+ghost use Rattle.cx_lives.specs.Works.{IsClientLeft, ServedOf, stop_of_worker, stops_left};
 
 use crate::lines::Lines;
 use crate::operations::command_at;
@@ -194,11 +194,11 @@ fn has_stopped<Reply>(
 ) -> bool
     ensures { result ≡ is_stopped client (stops.now ++ stops_left rest.now) }
 {
-    is_told(stops, client) || is_left(rest, client)
+    has_stop_line(stops, client) || is_left(rest, client)
 }
 
 /// Whether one of the stop lines is this client's.
-fn is_told(stops: &[StopLine], client: u32) -> bool
+fn has_stop_line(stops: &[StopLine], client: u32) -> bool
     ensures { result ≡ is_stopped client stops.now }
 {
     stops.iter().any(|line| line.client == client)
@@ -219,7 +219,7 @@ fn is_left<Reply>(rest: &[Result<WorkerOutcome<Reply>, AllocError>], client: u32
 
 /// Whether a worker's client is this one and was stopped.
 fn tells_stop<Reply>(served: &Result<WorkerOutcome<Reply>, AllocError>, client: u32) -> bool
-    ensures { result ≡ is_stopped client (stop_told served.now) }
+    ensures { result ≡ is_stopped client (stop_of_worker served.now) }
 {
     match served {
         Ok(WorkerOutcome::Done(work)) => match &work.end {

@@ -9,27 +9,27 @@ use Rattle.cx_program.proofs.CommandLaws.{GivesUp, owed_plain}
 use Rattle.table_invariant.specs.Ending.{Ending}
 
 -- a text that is owed, once written whole
-whole : (words : List (List ℕ)) (told : Option (List ℕ)) (status : Status) (trails : List Ending) (text : List ℕ) (before after : Option (List ℕ))
-    → (GivesUp status → ⊥) → Owed words told status trails text → Appends text before after → IsWrittenWith words told status trails before after
-whole words told ReadFault trails text before after plain owed appends = absurd (plain tt)
-whole words told WriteFault trails text before after plain owed appends = absurd (plain tt)
-whole words told Memory trails text before after plain owed appends = absurd (plain tt)
-whole words told status trails text before after plain owed appends = (text, owed, appends)
+whole : (words : List (List ℕ)) (given : Option (List ℕ)) (status : Status) (trails : List Ending) (text : List ℕ) (before after : Option (List ℕ))
+    → (GivesUp status → ⊥) → Owed words given status trails text → Appends text before after → IsWrittenWith words given status trails before after
+whole words given ReadFault trails text before after plain owed appends = absurd (plain tt)
+whole words given WriteFault trails text before after plain owed appends = absurd (plain tt)
+whole words given Memory trails text before after plain owed appends = absurd (plain tt)
+whole words given status trails text before after plain owed appends = (text, owed, appends)
 
 -- a text that is owed with a status and trails is owed by a run that ended with them
-pub owed_by : (words : List (List ℕ)) (told : Option (List ℕ)) (status : Status) (trails : List Ending) (text : List ℕ) (ended : FinishedRun) → (ended.status ≡ status) × (ended.trails ≡ trails)
-    → Owed words told status trails text → Owed words told ended.status ended.trails text
-owed_by words told status trails text ended is owed =
-    subst (λ (s : Status). Owed words told s ended.trails text) (sym is.0) (subst (λ (ts : List Ending). Owed words told status ts text) (sym is.1) owed)
+pub owed_by : (words : List (List ℕ)) (given : Option (List ℕ)) (status : Status) (trails : List Ending) (text : List ℕ) (ended : FinishedRun) → (ended.status ≡ status) × (ended.trails ≡ trails)
+    → Owed words given status trails text → Owed words given ended.status ended.trails text
+owed_by words given status trails text ended is owed =
+    subst (λ (s : Status). Owed words given s ended.trails text) (sym is.0) (subst (λ (ts : List Ending). Owed words given status ts text) (sym is.1) owed)
 
 -- what stands written where a text was owed
-pub answers_written : (words : List (List ℕ)) (told : Option (List ℕ)) (text : List ℕ) (ended result : FinishedRun) (before after : Option (List ℕ)) (faults faults' : ℕ)
-    → Owed words told ended.status ended.trails text → Wrote text ended result before after faults faults' → IsWrittenWith words told result.status result.trails before after
-answers_written words told text ended result before after faults faults' owed (inl wrote) =
-    subst (λ (e : FinishedRun). IsWrittenWith words told e.status e.trails before after) (sym wrote.0)
-    (whole words told ended.status ended.trails text before after (owed_plain words told ended.status ended.trails text owed) owed wrote.1)
-answers_written words told text ended result before after faults faults' owed (inr failed) =
-    subst (λ (s : Status). IsWrittenWith words told s result.trails before after) (sym failed.0) (text, record { status = ended.status; trails = ended.trails; owed = owed }, failed.1)
+pub answers_written : (words : List (List ℕ)) (given : Option (List ℕ)) (text : List ℕ) (ended result : FinishedRun) (before after : Option (List ℕ)) (faults faults' : ℕ)
+    → Owed words given ended.status ended.trails text → Wrote text ended result before after faults faults' → IsWrittenWith words given result.status result.trails before after
+answers_written words given text ended result before after faults faults' owed (inl wrote) =
+    subst (λ (e : FinishedRun). IsWrittenWith words given e.status e.trails before after) (sym wrote.0)
+    (whole words given ended.status ended.trails text before after (owed_plain words given ended.status ended.trails text owed) owed wrote.1)
+answers_written words given text ended result before after faults faults' owed (inr failed) =
+    subst (λ (s : Status). IsWrittenWith words given s result.trails before after) (sym failed.0) (text, record { status = ended.status; trails = ended.trails; owed = owed }, failed.1)
 
 -- a status that an input calls for has no cause to tell
 no_cause : (status : Status) (reads reads' writes writes' : ℕ) → (GivesUp status → ⊥) → HasCause status reads reads' writes writes'

@@ -83,14 +83,14 @@ calls_plain command input status is (inl x) gives = subst GivesUp x.1 gives
 calls_plain command input status is (inr x) gives = is.plain input status x.1 gives
 
 -- nothing that is called for tells of a fault
-pub owed_plain : (words : List (List ℕ)) (told : Option (List ℕ)) (status : Status) (trails : List Ending) (text : List ℕ) → Owed words told status trails text → GivesUp status → ⊥
-owed_plain words told status trails text owed = calls_plain (command_asked owed.asked) owed.input status (sound owed.asked) owed.owes.calls
+pub owed_plain : (words : List (List ℕ)) (given : Option (List ℕ)) (status : Status) (trails : List Ending) (text : List ℕ) → Owed words given status trails text → GivesUp status → ⊥
+owed_plain words given status trails text owed = calls_plain (command_asked owed.asked) owed.input status (sound owed.asked) owed.owes.calls
 
 -- what is owed for an input that calls for a status
-owed_as : (asked : Option AskedCommand) (words : List (List ℕ)) (told : Option (List ℕ)) (input : List ℕ) (status : Status) (trails : List Ending) (text : List ℕ)
-    → (command_asked asked).asked words → IsInput (command_asked asked).reads told input → CallsForStatus (command_asked asked) input status
-    → (16777216 < length input → text ≡ too_long_text) → (length input ≤ 16777216 → (command_asked asked).writes input status trails text) → Owed words told status trails text
-owed_as asked words told input status trails text asks is wanted long short = record {
+owed_as : (asked : Option AskedCommand) (words : List (List ℕ)) (given : Option (List ℕ)) (input : List ℕ) (status : Status) (trails : List Ending) (text : List ℕ)
+    → (command_asked asked).asked words → IsInput (command_asked asked).reads given input → CallsForStatus (command_asked asked) input status
+    → (16777216 < length input → text ≡ too_long_text) → (length input ≤ 16777216 → (command_asked asked).writes input status trails text) → Owed words given status trails text
+owed_as asked words given input status trails text asks is wanted long short = record {
   asked = asked;
   asks = asks;
   input = input;
@@ -99,16 +99,16 @@ owed_as asked words told input status trails text asks is wanted long short = re
 }
 
 -- of one within the limit, and of a longer one
-pub owed_short : (asked : Option AskedCommand) (words : List (List ℕ)) (told : Option (List ℕ)) (input : List ℕ) (status : Status) (trails : List Ending) (text : List ℕ)
-    → (command_asked asked).asked words → IsInput (command_asked asked).reads told input → length input ≤ 16777216
-    → (command_asked asked).calls input status → (command_asked asked).writes input status trails text → Owed words told status trails text
-owed_short asked words told input status trails text asks is short calls writes =
-    owed_as asked words told input status trails text asks is (inr (short, calls)) (λ past. absurd (omega (arith, past, short))) (λ within. writes)
+pub owed_short : (asked : Option AskedCommand) (words : List (List ℕ)) (given : Option (List ℕ)) (input : List ℕ) (status : Status) (trails : List Ending) (text : List ℕ)
+    → (command_asked asked).asked words → IsInput (command_asked asked).reads given input → length input ≤ 16777216
+    → (command_asked asked).calls input status → (command_asked asked).writes input status trails text → Owed words given status trails text
+owed_short asked words given input status trails text asks is short calls writes =
+    owed_as asked words given input status trails text asks is (inr (short, calls)) (λ past. absurd (omega (arith, past, short))) (λ within. writes)
 
-pub owed_long : (asked : Option AskedCommand) (words : List (List ℕ)) (told : Option (List ℕ)) (input : List ℕ)
-    → (command_asked asked).asked words → IsInput (command_asked asked).reads told input → 16777216 < length input → Owed words told TooLong [] too_long_text
-owed_long asked words told input asks is past =
-    owed_as asked words told input TooLong [] too_long_text asks is (inl (past, refl)) (λ more. refl) (λ within. absurd (omega (arith, past, within)))
+pub owed_long : (asked : Option AskedCommand) (words : List (List ℕ)) (given : Option (List ℕ)) (input : List ℕ)
+    → (command_asked asked).asked words → IsInput (command_asked asked).reads given input → 16777216 < length input → Owed words given TooLong [] too_long_text
+owed_long asked words given input asks is past =
+    owed_as asked words given input TooLong [] too_long_text asks is (inl (past, refl)) (λ more. refl) (λ within. absurd (omega (arith, past, within)))
 
 -- where no word asks for what reads, nothing is read for what they ask for
 pub none_read : (words : List (List ℕ)) (asked : AskedCommand) → (command asked).asked words → (Read words → ⊥) → (command asked).reads ≡ false

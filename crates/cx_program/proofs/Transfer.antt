@@ -12,9 +12,9 @@ pub record IsFront (all : List ℕ) (left : Option (List ℕ)) (bytes : List ℕ
   pub rest : left ≡ Some (drop (length bytes) all)
   pub within : length bytes ≤ length all
 
--- the same, where the source told what it had
+-- these bytes were read: where it is known what the source had, they are its front, and the rest is left
 abbrev pub HasRead : Option (List ℕ) → Option (List ℕ) → List ℕ → Type 0
-HasRead told left bytes = IfSome told (λ all. IsFront all left bytes)
+HasRead given left bytes = IfSome given (λ all. IsFront all left bytes)
 
 -- one more piece was read
 front-more : (all : List ℕ) (n : ℕ) (bytes longer : List ℕ) (left after : Option (List ℕ)) → IsFront all left bytes → Moves n (drop (length bytes) all) bytes longer after → IsFront all after longer
@@ -29,7 +29,7 @@ front-more all n bytes longer left after front moves =
       within = omega (arith, len, moves.enough, length-drop (length bytes) all, front.within);
     }
 
-pub read-more : (told left after : Option (List ℕ)) (n : ℕ) (bytes longer : List ℕ) → HasRead told left bytes → Moved n left bytes longer after → HasRead told after longer
+pub read-more : (given left after : Option (List ℕ)) (n : ℕ) (bytes longer : List ℕ) → HasRead given left bytes → Moved n left bytes longer after → HasRead given after longer
 read-more None left after n bytes longer read moves = tt
 read-more (Some all) left after n bytes longer read moves =
     front-more all n bytes longer left after read

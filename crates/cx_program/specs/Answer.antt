@@ -23,18 +23,18 @@ pub record Owes (command : CommandMeaning) (input : List ℕ) (status : Status) 
   pub short : length input ≤ 16777216 → command.writes input status trails text
 
 -- What words and input call for. The input is what the source had left, where contracts see it, and empty for a command that reads nothing.
-pub record Owed (words : List (List ℕ)) (told : Option (List ℕ)) (status : Status) (trails : List Ending) (text : List ℕ) : Type 0 where
+pub record Owed (words : List (List ℕ)) (given : Option (List ℕ)) (status : Status) (trails : List Ending) (text : List ℕ) : Type 0 where
   pub asked : Option AskedCommand
   pub asks : (command_asked asked).asked words
   pub input : List ℕ
-  pub is : IsInput (command_asked asked).reads told input
+  pub is : IsInput (command_asked asked).reads given input
   pub owes : Owes (command_asked asked) input status trails text
 
 -- a text that words and input call for with some status
-pub record IsOwed (words : List (List ℕ)) (told : Option (List ℕ)) (text : List ℕ) : Type 0 where
+pub record IsOwed (words : List (List ℕ)) (given : Option (List ℕ)) (text : List ℕ) : Type 0 where
   pub status : Status
   pub trails : List Ending
-  pub owed : Owed words told status trails text
+  pub owed : Owed words given status trails text
 
 -- the words ask for what reads an input
 pub record Read (words : List (List ℕ)) : Type 0 where
@@ -45,10 +45,10 @@ pub record Read (words : List (List ℕ)) : Type 0 where
 -- What was written with a status: nothing where the source failed or memory ran out; a prefix of some text that is called for where
 -- the sink failed; else the whole text that is called for.
 abbrev pub IsWrittenWith : List (List ℕ) → Option (List ℕ) → Status → List Ending → Option (List ℕ) → Option (List ℕ) → Type 0
-IsWrittenWith words told ReadFault trails before after = Read words × (after ≡ before)
-IsWrittenWith words told Memory trails before after = after ≡ before
-IsWrittenWith words told WriteFault trails before after = (text : List ℕ) × IsOwed words told text × AppendsFront text before after
-IsWrittenWith words told status trails before after = (text : List ℕ) × Owed words told status trails text × Appends text before after
+IsWrittenWith words given ReadFault trails before after = Read words × (after ≡ before)
+IsWrittenWith words given Memory trails before after = after ≡ before
+IsWrittenWith words given WriteFault trails before after = (text : List ℕ) × IsOwed words given text × AppendsFront text before after
+IsWrittenWith words given status trails before after = (text : List ℕ) × Owed words given status trails text × Appends text before after
 
 -- what caused a status: the count of the source's faults rose, or that of the sink's
 abbrev pub HasCause : Status → ℕ → ℕ → ℕ → ℕ → Type 0

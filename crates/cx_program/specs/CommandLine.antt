@@ -24,6 +24,7 @@ load_app = with_rule (with_rule (with_rule (new_app (codes "load")) (number_rule
 abbrev pub pool_app : App
 pool_app = with_rule (new_app (codes "pool")) (number_rule (codes "seats"))
 
+-- the command line of the program: one of seven commands is wanted, and there are no commands for help
 abbrev pub program : App
 program = record {
   top = record (new_shape (codes "cx_tool")) {

@@ -10,14 +10,14 @@ use Rattle.cx_program.specs.declared.input.Input.TheVariants.{Whole, TooLong, Fa
 
 -- the bytes are an input: what the source had left, where contracts see that; nothing where no input is read
 abbrev pub IsInput : Bool → Option (List ℕ) → List ℕ → Type 0
-IsInput true told input = IfSome told (λ all. input ≡ all)
-IsInput false told input = input ≡ []
+IsInput true given input = IfSome given (λ all. input ≡ all)
+IsInput false given input = input ≡ []
 
 -- what reading shows of an input, if one is read, with the source's count of faults before and after
 abbrev pub ShowsInput : Bool → Option (List ℕ) → ℕ → ℕ → Input → Type 0
-ShowsInput reads told before after (Whole bytes) = (length bytes.items ≤ 16777216) × IsInput reads told bytes.items
-ShowsInput reads told before after TooLong = (input : List ℕ) × (16777216 < length input) × IsInput reads told input
-ShowsInput reads told before after Failed = IsTrue reads × Rose before after
+ShowsInput reads given before after (Whole bytes) = (length bytes.items ≤ 16777216) × IsInput reads given bytes.items
+ShowsInput reads given before after TooLong = (input : List ℕ) × (16777216 < length input) × IsInput reads given input
+ShowsInput reads given before after Failed = IsTrue reads × Rose before after
 
 -- a piece of n bytes moved from the front of what was left behind the bytes read so far; no byte is the end
 pub record Moves (n : ℕ) (rest bytes longer : List ℕ) (after : Option (List ℕ)) : Type 0 where
@@ -36,6 +36,7 @@ pub record TakesBytes (most : ℕ) (all : List ℕ) (rest : Option (List ℕ)) :
   pub few : count ≤ most
   pub left : rest ≡ Some (drop count all)
 
+-- at most this many bytes were taken from the front of what was left, where the source says which bytes it has left
 abbrev pub TookAtMost : ℕ → Option (List ℕ) → Option (List ℕ) → Type 0
 TookAtMost most before after = IfSome before (λ all. TakesBytes most all after)
 

@@ -7,12 +7,15 @@ use Rattle.trace_text.specs.Reasons.{trace_reason_text}
 use Rattle.trace_text.specs.Traces.{IsTraceFault}
 use Rattle.trace_text.specs.declared.trace.TraceReason.{TraceReason}
 
+-- what is written where words ask for no command
 abbrev pub usage_text : List ℕ
 usage_text = codes "usage: cx_tool run | image | recover | load FROM CLIENTS OPS | pool SEATS | fifo | trace\n"
 
+-- what is written of an input that is refused: the line, and the reason as a word
 abbrev pub refused_text : ℕ → List ℕ → List ℕ
 refused_text line reason = codes "refused line " ++ decimal line ++ codes ": " ++ reason ++ codes "\n"
 
+-- what is written of an input over the limit
 abbrev pub too_long_text : List ℕ
 too_long_text = codes "refused: input over 16777216 bytes\n"
 

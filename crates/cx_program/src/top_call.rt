@@ -144,7 +144,7 @@ fn run_input<R: Threads + Wait + Sync, K: Sink, G: Gate + Sync>(
     gate: &G,
 ) -> FinishedRun
     requires { length bytes.now ≤ 16777216 }
-    ensures answer { (words : List (List ℕ)) (told : Option (List ℕ)) → (command asked.now).asked words → IsInput (command asked.now).reads told bytes.now → IsWrittenWith words told result.status result.trails (K.written sink.old) (K.written sink.new) }
+    ensures answer { (words : List (List ℕ)) (given : Option (List ℕ)) → (command asked.now).asked words → IsInput (command asked.now).reads given bytes.now → IsWrittenWith words given result.status result.trails (K.written sink.old) (K.written sink.new) }
     ensures cause { (reads reads' : ℕ) → HasCause result.status reads reads' (K.faults sink.old) (K.faults sink.new) }
 {
     match text_of(rt, alloc, asked, bytes, gate) {

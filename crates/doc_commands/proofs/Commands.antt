@@ -22,33 +22,33 @@ range_more n =
     ∙ ap (λ (xs : List ℕ). xs ++ n ∷ []) (map-id (range_with_len 0 n))
 
 -- a client without a number
-pub told_skip : (region : List ℕ) (n : ℕ) (outcomes : List Applied) → IsToldBelow region n outcomes → slot_number n region ≡ 0
+pub outcomes_skip : (region : List ℕ) (n : ℕ) (outcomes : List Applied) → IsToldBelow region n outcomes → slot_number n region ≡ 0
     → IsToldBelow region (n + 1) outcomes
-told_skip region n outcomes told none =
+outcomes_skip region n outcomes are none =
     let left_out : filter (has_number region) (range_with_len 0 (n + 1)) ≡ filter (has_number region) (range_with_len 0 n) =
     ap (filter (has_number region)) (range_more n) ∙ filter-append (has_number region) (range_with_len 0 n) (n ∷ [])
     ∙ rw none (append-nil (filter (has_number region) (range_with_len 0 n))) in
     record {
-      clients = told.clients ∙ sym left_out;
-      commands = told.commands;
+      clients = are.clients ∙ sym left_out;
+      commands = are.commands;
       replies = λ client below some. elim (cases_eq client n) [
         | inl same ↦ absurd (some (ap (λ c. slot_number c region) same ∙ none))
-        | inr other ↦ told.replies client (omega (arith, below, other)) some
+        | inr other ↦ are.replies client (omega (arith, below, other)) some
       ];
     }
 
 -- a client with a number
-pub told_more : (region : List ℕ) (n : ℕ) (outcomes : List Applied) (applied : Applied) → IsToldBelow region n outcomes
+pub outcomes_more : (region : List ℕ) (n : ℕ) (outcomes : List Applied) (applied : Applied) → IsToldBelow region n outcomes
     → applied.client ≡ n → slot_number n region ≢ 0 → IsLastCommand region applied → IsToldBelow region (n + 1) (outcomes ++ applied ∷ [])
-told_more region n outcomes applied told mine some is =
+outcomes_more region n outcomes applied are mine some is =
     let passes : has_number region n ≡ true = lt-ltb 0 (slot_number n region) (omega (arith, some)) in
     let added : filter (has_number region) (range_with_len 0 (n + 1)) ≡ filter (has_number region) (range_with_len 0 n) ++ n ∷ [] =
     ap (filter (has_number region)) (range_more n) ∙ filter-append (has_number region) (range_with_len 0 n) (n ∷ []) ∙ rw passes refl in
     record {
-      clients = map-append (λ (a : Applied). a.client) outcomes (applied ∷ []) ∙ rw (told.clients, mine) (sym added);
-      commands = All-push (IsLastCommand region) outcomes applied told.commands is;
+      clients = map-append (λ (a : Applied). a.client) outcomes (applied ∷ []) ∙ rw (are.clients, mine) (sym added);
+      commands = All-push (IsLastCommand region) outcomes applied are.commands is;
       replies = λ client below has. elim (cases_eq client n) [
         | inl same ↦ (applied.reply, subst (λ c. IsReplyOf (slot_reply c region) applied.reply) (mine ∙ sym same) is.reply)
-        | inr other ↦ told.replies client (omega (arith, below, other)) has
+        | inr other ↦ are.replies client (omega (arith, below, other)) has
       ];
     }

@@ -30,4 +30,4 @@ first_documents image found store is stands =
     let begins : old.version ≡ Some (version_of region) = ap Some (sym stands.arranged.version_word) in
     let there : object_part (upgraded_region old region) ≡ part = ap object_part (upgraded_old old region begins) ∙ part_there region part (region_long image) in
     let now = (is_migrated (object_part region)).pairs store stands in
-    ap (λ (s : RevisedStore). s.triples) (sym is.told.documents.1.revised ∙ ap revised_in there ∙ now.revised)
+    ap (λ (s : RevisedStore). s.triples) (sym is.has_documents.documents.1.revised ∙ ap revised_in there ∙ now.revised)

@@ -39,7 +39,7 @@ pub record IsTold (lines : ℕ) (store : RevisedStore) (life : Life Op) (line : 
 abbrev pub AreTold : ℕ → RevisedStore → Life Op → List (JournalLine Reply) → Type 0
 AreTold lines store life [] = Unit {0}
 AreTold lines store life (line ∷ journal) =
-    (told : IsTold lines store life line) × AreTold lines (store_after lines store told.op) life journal
+    (is_told : IsTold lines store life line) × AreTold lines (store_after lines store is_told.op) life journal
 
 pub value_of : {X : Type 0} (o : Option X) → IsSome o → (x : X) × (o ≡ Some x)
 value_of None some = cc
@@ -64,9 +64,9 @@ store_at-cons : (lines : ℕ) (store : RevisedStore) (life : Life Op) (line : Jo
 store_at-cons lines store life line journal i op is = rw is
 
 -- a reply that is told is this one
-none_or : (r : Reply) (reply : Option Reply) → IfSome reply (λ told. told ≡ r) → IsNoneOr r reply
+none_or : (r : Reply) (reply : Option Reply) → IfSome reply (λ given. given ≡ r) → IsNoneOr r reply
 none_or r None same = inl refl
-none_or r (Some told) same = inr (ap Some same)
+none_or r (Some given) same = inr (ap Some same)
 
 -- the replies by place are those of the stores one after another
 pub AreTold-from_places : (lines : ℕ) (store : RevisedStore) (life : Life Op) (journal : List (JournalLine Reply)) → IsRevisedStore store → All (λ (c : Command Op). IsOp c.op) life.commands
@@ -109,10 +109,10 @@ same_op_named : (life : Life Op) (a b : JournalLine Reply) → a.client ≡ b.cl
 same_op_named life a b client command = ap (λ n. named_op life n a.command) client ∙ ap (named_op life b.client) command
 
 -- the operations of lines are the same where their names are
-same_op : (lines : ℕ) (store : RevisedStore) (life : Life Op) (a b : JournalLine Reply) (told : IsTold lines store life a) (other : IsTold lines store life b)
-    → a.client ≡ b.client → a.command ≡ b.command → told.op ≡ other.op
-same_op lines store life a b told other client command =
-    let first = told.is in let second = other.is in
+same_op : (lines : ℕ) (store : RevisedStore) (life : Life Op) (a b : JournalLine Reply) (is_told : IsTold lines store life a) (other : IsTold lines store life b)
+    → a.client ≡ b.client → a.command ≡ b.command → is_told.op ≡ other.op
+same_op lines store life a b is_told other client command =
+    let first = is_told.is in let second = other.is in
     let same = same_op_named life a b client command in
     cc
 
@@ -123,25 +123,25 @@ same_line a b ticket client command reply = λ i. record { ticket = ticket i; cl
 same_first : (lines : ℕ) (store : RevisedStore) (life : Life Op) (a b : JournalLine Reply) (x y : List ℕ)
     → IsTold lines store life a → IsTold lines store life b
     → journal_text document_wording life a ++ x ≡ journal_text document_wording life b ++ y → (bare a ≡ bare b) × (x ≡ y)
-same_first lines store life a b x y told other e =
+same_first lines store life a b x y is_told other e =
     let parts = sym (journal_text-append life a x) ∙ e ∙ journal_text-append life b y in
     let ticket = same_numbers a.ticket b.ticket 32
     (decimal a.client ++ 46 ∷ (decimal a.command ++ 32 ∷ answer_end life a x))
     (decimal b.client ++ 46 ∷ (decimal b.command ++ 32 ∷ answer_end life b y))
-    told.numbers.0 other.numbers.0 (lit≤ tt) parts in
+    is_told.numbers.0 other.numbers.0 (lit≤ tt) parts in
     let client = same_numbers a.client b.client 46
     (decimal a.command ++ 32 ∷ answer_end life a x) (decimal b.command ++ 32 ∷ answer_end life b y)
-    told.numbers.1 other.numbers.1 (lit≤ tt) ticket.1 in
+    is_told.numbers.1 other.numbers.1 (lit≤ tt) ticket.1 in
     let command = same_numbers a.command b.command 32 (answer_end life a x) (answer_end life b y)
-    told.numbers.2 other.numbers.2 (lit≤ tt) client.1 in
-    let op = same_op lines store life a b told other client.0 command.0 in
+    is_told.numbers.2 other.numbers.2 (lit≤ tt) client.1 in
+    let op = same_op lines store life a b is_told other client.0 command.0 in
     let asked : asked_text life a ≡ asked_text life b = ap (λ o. option_map_or command_text o []) (same_op_named life a b client.0 command.0) in
     let answers = append_cancel_left (codes " = ") (answer_text a.reply ++ 10 ∷ x) (answer_text b.reply ++ 10 ∷ y)
     (append_cancel_left (asked_text life a) (codes " = " ++ (answer_text a.reply ++ 10 ∷ x)) (codes " = " ++ (answer_text b.reply ++ 10 ∷ y))
     (command.1 ∙ ap (λ t. t ++ (codes " = " ++ (answer_text b.reply ++ 10 ∷ y))) (sym asked))) in
-    let one : IsNoneOr (reply_to lines store told.op) b.reply = subst (λ o. IsNoneOr (reply_to lines store o) b.reply) (sym op) other.reply in (
+    let one : IsNoneOr (reply_to lines store is_told.op) b.reply = subst (λ o. IsNoneOr (reply_to lines store o) b.reply) (sym op) other.reply in (
       same_line (bare a) (bare b) ticket.0 client.0 command.0 refl,
-      same_after_answer (reply_to lines store told.op) a.reply b.reply x y told.plain told.reply one answers,
+      same_after_answer (reply_to lines store is_told.op) a.reply b.reply x y is_told.plain is_told.reply one answers,
     )
 
 -- a text `y` that begins with no digit does not begin with a line of a journal
@@ -154,21 +154,21 @@ no_line life line x y numbers outside e =
 pub same_journals : (lines : ℕ) (store : RevisedStore) (life : Life Op) (a b : List (JournalLine Reply)) (x y : List ℕ)
     → AreTold lines store life a → AreTold lines store life b → BeginsOutside x → BeginsOutside y
     → flat_map (journal_text document_wording life) a ++ x ≡ flat_map (journal_text document_wording life) b ++ y → (map bare a ≡ map bare b) × (x ≡ y)
-same_journals lines store life [] [] x y told others x_outside y_outside e = (refl, e)
-same_journals lines store life [] (line ∷ b) x y told others x_outside y_outside e =
+same_journals lines store life [] [] x y are_told others x_outside y_outside e = (refl, e)
+same_journals lines store life [] (line ∷ b) x y are_told others x_outside y_outside e =
     absurd (no_line life line (flat_map (journal_text document_wording life) b ++ y) x others.0.numbers x_outside
     (sym (append_assoc (journal_text document_wording life line) (flat_map (journal_text document_wording life) b) y) ∙ sym e))
-same_journals lines store life (line ∷ a) [] x y told others x_outside y_outside e =
-    absurd (no_line life line (flat_map (journal_text document_wording life) a ++ x) y told.0.numbers y_outside
+same_journals lines store life (line ∷ a) [] x y are_told others x_outside y_outside e =
+    absurd (no_line life line (flat_map (journal_text document_wording life) a ++ x) y are_told.0.numbers y_outside
     (sym (append_assoc (journal_text document_wording life line) (flat_map (journal_text document_wording life) a) x) ∙ e))
-same_journals lines store life (line ∷ a) (next ∷ b) x y told others x_outside y_outside e =
+same_journals lines store life (line ∷ a) (next ∷ b) x y are_told others x_outside y_outside e =
     let text = sym (append_assoc (journal_text document_wording life line) (flat_map (journal_text document_wording life) a) x) ∙ e
     ∙ append_assoc (journal_text document_wording life next) (flat_map (journal_text document_wording life) b) y in
-    let first = same_first lines store life line next (flat_map (journal_text document_wording life) a ++ x) (flat_map (journal_text document_wording life) b ++ y) told.0 others.0 text in
+    let first = same_first lines store life line next (flat_map (journal_text document_wording life) a ++ x) (flat_map (journal_text document_wording life) b ++ y) are_told.0 others.0 text in
     let same : bare line ≡ bare next = first.0 in
-    let op : told.0.op ≡ others.0.op = same_op lines store life line next told.0 others.0 (ap (λ (l : JournalLine Reply). l.client) same) (ap (λ (l : JournalLine Reply). l.command) same) in
+    let op : are_told.0.op ≡ others.0.op = same_op lines store life line next are_told.0 others.0 (ap (λ (l : JournalLine Reply). l.client) same) (ap (λ (l : JournalLine Reply). l.command) same) in
     let P : Op → Type 0 = λ o. AreTold lines (store_after lines store o) life b in
-    let found = same_journals lines (store_after lines store told.0.op) life a b x y told.1 (subst P (sym op) others.1) x_outside y_outside first.1 in
+    let found = same_journals lines (store_after lines store are_told.0.op) life a b x y are_told.1 (subst P (sym op) others.1) x_outside y_outside first.1 in
     let tail : map bare a ≡ map bare b = found.0 in
     (cc, found.1)
 
@@ -189,20 +189,20 @@ same_reply r a b (inr some) (inr also) same = some ∙ sym also
 pub same_replies : (lines : ℕ) (store : RevisedStore) (life : Life Op) (test : JournalLine Reply → Bool) → ((line : JournalLine Reply) → test (bare line) ≡ test line)
     → (a b : List (JournalLine Reply)) → AreTold lines store life a → AreTold lines store life b
     → All (IsAnsweredBy test) a → All (IsAnsweredBy test) b → map bare a ≡ map bare b → a ≡ b
-same_replies lines store life test blind [] [] told others answered also same = refl
-same_replies lines store life test blind (line ∷ a) (next ∷ b) told others answered also same =
+same_replies lines store life test blind [] [] are_told others answered also same = refl
+same_replies lines store life test blind (line ∷ a) (next ∷ b) are_told others answered also same =
     let first : bare line ≡ bare next = cc in
     let rest : map bare a ≡ map bare b = cc in
     let client : line.client ≡ next.client = ap (λ (l : JournalLine Reply). l.client) first in
     let command : line.command ≡ next.command = ap (λ (l : JournalLine Reply). l.command) first in
-    let op : told.0.op ≡ others.0.op = same_op lines store life line next told.0 others.0 client command in
-    let one : IsNoneOr (reply_to lines store told.0.op) next.reply = subst (λ o. IsNoneOr (reply_to lines store o) next.reply) (sym op) others.0.reply in
+    let op : are_told.0.op ≡ others.0.op = same_op lines store life line next are_told.0 others.0 client command in
+    let one : IsNoneOr (reply_to lines store are_told.0.op) next.reply = subst (λ o. IsNoneOr (reply_to lines store o) next.reply) (sym op) others.0.reply in
     let alike : is_some line.reply ≡ is_some next.reply =
     All-head (IsAnsweredBy test) line a answered ∙ sym (blind line) ∙ ap test first ∙ blind next ∙ sym (All-head (IsAnsweredBy test) next b also) in
     let here : line ≡ next = same_line line next (ap (λ (l : JournalLine Reply). l.ticket) first) client command
-    (same_reply (reply_to lines store told.0.op) line.reply next.reply told.0.reply one alike) in
+    (same_reply (reply_to lines store are_told.0.op) line.reply next.reply are_told.0.reply one alike) in
     let P : Op → Type 0 = λ o. AreTold lines (store_after lines store o) life b in
-    let tail : a ≡ b = same_replies lines (store_after lines store told.0.op) life test blind a b told.1 (subst P (sym op) others.1)
+    let tail : a ≡ b = same_replies lines (store_after lines store are_told.0.op) life test blind a b are_told.1 (subst P (sym op) others.1)
     (All-tail (IsAnsweredBy test) line a answered) (All-tail (IsAnsweredBy test) next b also) rest in
     cc
-same_replies lines store life test blind _ _ told others answered also same = absurd cc
+same_replies lines store life test blind _ _ are_told others answered also same = absurd cc

@@ -31,41 +31,41 @@ regroup a b c d e f x = simp append_assoc
 
 -- the first line of a record, and the one on the crash
 abbrev life_of : ℕ → LifeRecord Reply → List ℕ
-life_of number told = life_text number told.clients told.from
+life_of number report = life_text number report.clients report.from
 
 abbrev power_of : LifeRecord Reply → List ℕ
-power_of told = power_text told.choice told.kept (length told.journal) (codes " documents ") told.items
+power_of report = power_text report.choice report.kept (length report.journal) (codes " documents ") report.items
 
 -- the lines of a record behind those of its history, of its reads and of its stops, with what follows them
 abbrev fulls_end : LifeRecord Reply → List ℕ → List ℕ
-fulls_end told x = flat_map full_text told.fulls ++ (power_of told ++ x)
+fulls_end report x = flat_map full_text report.fulls ++ (power_of report ++ x)
 
 abbrev stops_end : LifeRecord Reply → List ℕ → List ℕ
-stops_end told x = flat_map stop_text told.stops ++ fulls_end told x
+stops_end report x = flat_map stop_text report.stops ++ fulls_end report x
 
 abbrev reads_end : Life Op → LifeRecord Reply → List ℕ → List ℕ
-reads_end life told x = flat_map (read_text document_wording life) told.reads ++ stops_end told x
+reads_end life report x = flat_map (read_text document_wording life) report.reads ++ stops_end report x
 
 -- the parts of a record's text, with what follows it
-record_text-append : (number : ℕ) (life : Life Op) (told : LifeRecord Reply) (x : List ℕ)
-    → record_text document_wording number life told ++ x ≡ life_of number told ++ (flat_map (journal_text document_wording life) told.journal ++ reads_end life told x)
-record_text-append number life told x =
-    regroup (life_of number told) (flat_map (journal_text document_wording life) told.journal) (flat_map (read_text document_wording life) told.reads)
-    (flat_map stop_text told.stops) (flat_map full_text told.fulls) (power_of told) x
+record_text-append : (number : ℕ) (life : Life Op) (report : LifeRecord Reply) (x : List ℕ)
+    → record_text document_wording number life report ++ x ≡ life_of number report ++ (flat_map (journal_text document_wording life) report.journal ++ reads_end life report x)
+record_text-append number life report x =
+    regroup (life_of number report) (flat_map (journal_text document_wording life) report.journal) (flat_map (read_text document_wording life) report.reads)
+    (flat_map stop_text report.stops) (flat_map full_text report.fulls) (power_of report) x
 
 -- the ends of the line on the crash, with what follows it
 abbrev items_end : LifeRecord Reply → List ℕ → List ℕ
-items_end told x = decimal told.items ++ 10 ∷ x
+items_end report x = decimal report.items ++ 10 ∷ x
 
 abbrev entries_end : LifeRecord Reply → List ℕ → List ℕ
-entries_end told x = decimal (length told.journal) ++ 32 ∷ (codes "documents " ++ items_end told x)
+entries_end report x = decimal (length report.journal) ++ 32 ∷ (codes "documents " ++ items_end report x)
 
 abbrev kept_end : LifeRecord Reply → List ℕ → List ℕ
-kept_end told x = decimal told.kept ++ 32 ∷ (codes "of " ++ entries_end told x)
+kept_end report x = decimal report.kept ++ 32 ∷ (codes "of " ++ entries_end report x)
 
-power_text-append : (told : LifeRecord Reply) (x : List ℕ)
-    → power_of told ++ x ≡ codes "power " ++ (decimal told.choice ++ 32 ∷ (codes "kept " ++ kept_end told x))
-power_text-append told x = simp append_assoc
+power_text-append : (report : LifeRecord Reply) (x : List ℕ)
+    → power_of report ++ x ≡ codes "power " ++ (decimal report.choice ++ 32 ∷ (codes "kept " ++ kept_end report x))
+power_text-append report x = simp append_assoc
 
 life_text-is : (number : ℕ) (a b : LifeRecord Reply) → a.clients ≡ b.clients → a.from ≡ b.from → life_of number a ≡ life_of number b
 life_text-is number a b clients from =
@@ -74,28 +74,28 @@ life_text-is number a b clients from =
 
 -- ---- what follows lines of a kind
 
-after_fulls : (b : ℕ) (fulls : List FullLine) (told : LifeRecord Reply) (x : List ℕ) → 102 ≢ b → 112 ≢ b
-    → BeginsWithout b (flat_map full_text fulls ++ (power_of told ++ x))
-after_fulls b [] told x no_full no_power = no_power
-after_fulls b (line ∷ fulls) told x no_full no_power = no_full
+after_fulls : (b : ℕ) (fulls : List FullLine) (report : LifeRecord Reply) (x : List ℕ) → 102 ≢ b → 112 ≢ b
+    → BeginsWithout b (flat_map full_text fulls ++ (power_of report ++ x))
+after_fulls b [] report x no_full no_power = no_power
+after_fulls b (line ∷ fulls) report x no_full no_power = no_full
 
-after_stops : (b : ℕ) (stops : List StopLine) (told : LifeRecord Reply) (x : List ℕ) → 115 ≢ b → 102 ≢ b → 112 ≢ b
-    → BeginsWithout b (flat_map stop_text stops ++ fulls_end told x)
-after_stops b [] told x no_stop no_full no_power = after_fulls b told.fulls told x no_full no_power
-after_stops b (line ∷ stops) told x no_stop no_full no_power = no_stop
+after_stops : (b : ℕ) (stops : List StopLine) (report : LifeRecord Reply) (x : List ℕ) → 115 ≢ b → 102 ≢ b → 112 ≢ b
+    → BeginsWithout b (flat_map stop_text stops ++ fulls_end report x)
+after_stops b [] report x no_stop no_full no_power = after_fulls b report.fulls report x no_full no_power
+after_stops b (line ∷ stops) report x no_stop no_full no_power = no_stop
 
-fulls_outside : (fulls : List FullLine) (told : LifeRecord Reply) (x : List ℕ) → BeginsOutside (flat_map full_text fulls ++ (power_of told ++ x))
-fulls_outside [] told x = lit≤ tt
-fulls_outside (line ∷ fulls) told x = lit≤ tt
+fulls_outside : (fulls : List FullLine) (report : LifeRecord Reply) (x : List ℕ) → BeginsOutside (flat_map full_text fulls ++ (power_of report ++ x))
+fulls_outside [] report x = lit≤ tt
+fulls_outside (line ∷ fulls) report x = lit≤ tt
 
-stops_outside : (stops : List StopLine) (told : LifeRecord Reply) (x : List ℕ) → BeginsOutside (flat_map stop_text stops ++ fulls_end told x)
-stops_outside [] told x = fulls_outside told.fulls told x
-stops_outside (line ∷ stops) told x = lit≤ tt
+stops_outside : (stops : List StopLine) (report : LifeRecord Reply) (x : List ℕ) → BeginsOutside (flat_map stop_text stops ++ fulls_end report x)
+stops_outside [] report x = fulls_outside report.fulls report x
+stops_outside (line ∷ stops) report x = lit≤ tt
 
 -- what follows a journal begins with no digit
-reads_outside : (life : Life Op) (reads : List (ReadLine Reply)) (told : LifeRecord Reply) (x : List ℕ) → BeginsOutside (flat_map (read_text document_wording life) reads ++ stops_end told x)
-reads_outside life [] told x = stops_outside told.stops told x
-reads_outside life (line ∷ reads) told x = lit≤ tt
+reads_outside : (life : Life Op) (reads : List (ReadLine Reply)) (report : LifeRecord Reply) (x : List ℕ) → BeginsOutside (flat_map (read_text document_wording life) reads ++ stops_end report x)
+reads_outside life [] report x = stops_outside report.stops report x
+reads_outside life (line ∷ reads) report x = lit≤ tt
 
 -- ---- what is legal of a record
 
@@ -103,10 +103,10 @@ abbrev AreOps : Life Op → Type 0
 AreOps life = All (λ (c : Command Op). IsOp c.op) life.commands
 
 -- what legality says of a journal's lines
-AreTold-from_legal : (lines place : ℕ) (store : RevisedStore) (life : Life Op) (told : LifeRecord Reply) → IsRevisedStore store → AreOps life
-    → IsLegal (document_meaning lines) place store life told → HasNumbers told → AreTold lines store life told.journal
-AreTold-from_legal lines place store life told s ops legal numbers =
-    AreTold-from_places lines store life told.journal s ops legal.interleaved.named numbers.journal legal.replies
+AreTold-from_legal : (lines place : ℕ) (store : RevisedStore) (life : Life Op) (report : LifeRecord Reply) → IsRevisedStore store → AreOps life
+    → IsLegal (document_meaning lines) place store life report → HasNumbers report → AreTold lines store life report.journal
+AreTold-from_legal lines place store life report s ops legal numbers =
+    AreTold-from_places lines store life report.journal s ops legal.interleaved.named numbers.journal legal.replies
 
 -- a client was stopped in no command before the one in which its stop line says so
 no_stop_before : (client command answered : ℕ) (stops : List StopLine) → All (λ line. line.client ≡ client → line.command ≡ answered + 1) stops
@@ -126,8 +126,8 @@ is_answered stops line = not (has_stop line.client line.command stops)
 
 entry_answered : (line : JournalLine Reply) (answered : ℕ) (stops : List StopLine) → All (λ stop. stop.client ≡ line.client → stop.command ≡ answered + 1) stops
     → IsEndedEntry line.client answered stops line → IsAnsweredBy (is_answered stops) line
-entry_answered line answered stops are (inl (first, within, told)) =
-    rw (no_stop_before line.client line.command answered stops are within, some_is line.reply told) refl
+entry_answered line answered stops are (inl (first, within, replied)) =
+    rw (no_stop_before line.client line.command answered stops are within, some_is line.reply replied) refl
   where
     some_is : {X : Type 0} (o : Option X) → IsSome o → is_some o ≡ true
     some_is None some = cc
@@ -136,12 +136,12 @@ entry_answered line answered stops are (inr (next, none, stopped)) =
     rw (none, next, stopped) refl
 
 -- the entries that tell a reply are those of clients that were not stopped in them
-journal_answered : (lines place : ℕ) (store : RevisedStore) (life : Life Op) (told : LifeRecord Reply) → IsLegal (document_meaning lines) place store life told
-    → All (IsAnsweredBy (is_answered told.stops)) told.journal
-journal_answered lines place store life told legal k d below =
+journal_answered : (lines place : ℕ) (store : RevisedStore) (life : Life Op) (report : LifeRecord Reply) → IsLegal (document_meaning lines) place store life report
+    → All (IsAnsweredBy (is_answered report.stops)) report.journal
+journal_answered lines place store life report legal k d below =
     let named = legal.interleaved.named k d below in
-    let ended = legal.ended (get_or told.journal k d).client named.takes_part in
-    entry_answered (get_or told.journal k d) ended.answered told.stops ended.stops (ended.entries k d below refl)
+    let ended = legal.ended (get_or report.journal k d).client named.takes_part in
+    entry_answered (get_or report.journal k d) ended.answered report.stops ended.stops (ended.entries k d below refl)
 
 -- ---- stores along a journal
 
@@ -161,10 +161,10 @@ bare_read lines place store life journal line legal = record {
       (sym (ops_of-bare life journal (line.place - place))) legal.reply;
 }
 
-reads_read_off : (lines place : ℕ) (store : RevisedStore) (life : Life Op) (told : LifeRecord Reply) → IsLegal (document_meaning lines) place store life told → HasNumbers told
-    → All (IsReadOff lines place store life (map bare told.journal)) told.reads
-reads_read_off lines place store life told legal numbers k d below =
-    record { legal = bare_read lines place store life told.journal (get_or told.reads k d) (legal.legal_reads k d below); numbers = numbers.reads k d below }
+reads_read_off : (lines place : ℕ) (store : RevisedStore) (life : Life Op) (report : LifeRecord Reply) → IsLegal (document_meaning lines) place store life report → HasNumbers report
+    → All (IsReadOff lines place store life (map bare report.journal)) report.reads
+reads_read_off lines place store life report legal numbers k d below =
+    record { legal = bare_read lines place store life report.journal (get_or report.reads k d) (legal.legal_reads k d below); numbers = numbers.reads k d below }
 
 cons_within : (o : Option Op) (ops : List Op) → ((op : Op) → o ≡ Some op → IsOp op) → All IsOp ops → All IsOp (cons_option o ops)
 cons_within None ops one all = all
@@ -213,10 +213,10 @@ same_record number lines place store life a b x y s ops legal other fits others_
     (flat_map (journal_text document_wording life) a.journal ++ reads_end life a x) (flat_map (journal_text document_wording life) b.journal ++ reads_end life b y)
     (sym (record_text-append number life a x) ∙ e ∙ record_text-append number life b y
     ∙ ap (λ t. t ++ (flat_map (journal_text document_wording life) b.journal ++ reads_end life b y)) (sym (life_text-is number a b clients from))) in
-    let told = AreTold-from_legal lines place store life a s ops legal.legal fits in
+    let are_told = AreTold-from_legal lines place store life a s ops legal.legal fits in
     let others = AreTold-from_legal lines place store life b s ops other.legal others_fit in
     let journal = same_journals lines store life a.journal b.journal (reads_end life a x) (reads_end life b y)
-    told others (reads_outside life a.reads a x) (reads_outside life b.reads b y) after_life in
+    are_told others (reads_outside life a.reads a x) (reads_outside life b.reads b y) after_life in
     let P : List (JournalLine Reply) → Type 0 = λ j. All (IsReadOff lines place store life j) b.reads in
     let reads = same_lines (read_text document_wording life) 114 (IsReadOff lines place store life (map bare a.journal)) (reads_read lines place store life (map bare a.journal))
     a.reads b.reads (stops_end a x) (stops_end b y)
@@ -232,7 +232,7 @@ same_record number lines place store life a b x y s ops legal other fits others_
     let power = same_power a b x y fits others_fit fulls.1 in
     let Q : List StopLine → Type 0 = λ l. All (IsAnsweredBy (is_answered l)) b.journal in
     let same_journal : a.journal ≡ b.journal =
-    same_replies lines store life (is_answered a.stops) (λ line. refl) a.journal b.journal told others
+    same_replies lines store life (is_answered a.stops) (λ line. refl) a.journal b.journal are_told others
     (journal_answered lines place store life a legal.legal)
     (subst Q (sym stops.0) (journal_answered lines place store life b other.legal)) journal.0 in
     (same_parts a b clients from same_journal reads.0 stops.0 fulls.0 (legal.choice ∙ sym other.choice) power.0 power.1, power.2)
@@ -242,19 +242,19 @@ same_lives : (number lines place : ℕ) (store : RevisedStore) (lives : List (Li
     → AreLivesFrom (document_meaning lines) place store lives a → AreLivesFrom (document_meaning lines) place store lives b → AreNumbers a → AreNumbers b
     → records_text document_wording number lives a ≡ records_text document_wording number lives b → a ≡ b
 same_lives number lines place store [] [] [] s ops legal others fits others_fit e = refl
-same_lives number lines place store [] (told ∷ a) b s ops legal others fits others_fit e = absurd legal
+same_lives number lines place store [] (report ∷ a) b s ops legal others fits others_fit e = absurd legal
 same_lives number lines place store (life ∷ lives) [] b s ops legal others fits others_fit e = absurd legal
-same_lives number lines place store (life ∷ lives) (told ∷ a) (other ∷ b) s ops legal others fits others_fit e =
+same_lives number lines place store (life ∷ lives) (report ∷ a) (other ∷ b) s ops legal others fits others_fit e =
     let own : AreOps life = All-head AreOps life lives ops in
-    let found = same_record number lines place store life told other (records_text document_wording (number + 1) lives a) (records_text document_wording (number + 1) lives b) s own
-    legal.0 others.0 (All-head HasNumbers told a fits) (All-head HasNumbers other b others_fit) e in
+    let found = same_record number lines place store life report other (records_text document_wording (number + 1) lives a) (records_text document_wording (number + 1) lives b) s own
+    legal.0 others.0 (All-head HasNumbers report a fits) (All-head HasNumbers other b others_fit) e in
     let P : LifeRecord Reply → Type 0 = λ r. AreLivesFrom (document_meaning lines) (place + r.kept) (store_at (document_meaning lines) store life r.journal r.kept) lives b in
-    let first : told ≡ other = found.0 in
-    let next : IsRevisedStore (store_at (document_meaning lines) store life told.journal told.kept) =
-    IsRevisedStore-after_all lines store (ops_of life (take told.kept told.journal)) s (ops_within life (take told.kept told.journal) own) in
-    let rest : a ≡ b = same_lives (number + 1) lines (place + told.kept) (store_at (document_meaning lines) store life told.journal told.kept) lives a b
+    let first : report ≡ other = found.0 in
+    let next : IsRevisedStore (store_at (document_meaning lines) store life report.journal report.kept) =
+    IsRevisedStore-after_all lines store (ops_of life (take report.kept report.journal)) s (ops_within life (take report.kept report.journal) own) in
+    let rest : a ≡ b = same_lives (number + 1) lines (place + report.kept) (store_at (document_meaning lines) store life report.journal report.kept) lives a b
     next (All-tail AreOps life lives ops)
-    legal.1 (subst P (sym found.0) others.1) (All-tail HasNumbers told a fits) (All-tail HasNumbers other b others_fit) found.1 in
+    legal.1 (subst P (sym found.0) others.1) (All-tail HasNumbers report a fits) (All-tail HasNumbers other b others_fit) found.1 in
     cc
 same_lives number lines place store _ _ b s ops legal others fits others_fit e = absurd others
 

@@ -13,10 +13,10 @@ use Rattle.life_records.specs.Lives.{AreLivesFrom}
 use Rattle.life_records.specs.Records.{Life, LifeRecord}
 
 -- the records of one life are one
-pub one_record : (lines : ℕ) (store : RevisedStore) (life : Life Op) (records : List (LifeRecord Reply)) → AreLivesFrom (document_meaning lines) 0 store (life ∷ []) records → (told : LifeRecord Reply) × (records ≡ told ∷ [])
+pub one_record : (lines : ℕ) (store : RevisedStore) (life : Life Op) (records : List (LifeRecord Reply)) → AreLivesFrom (document_meaning lines) 0 store (life ∷ []) records → (report : LifeRecord Reply) × (records ≡ report ∷ [])
 one_record lines store life [] are = absurd are
-one_record lines store life (told ∷ []) are = (told, refl)
-one_record lines store life (told ∷ other ∷ records) are = absurd are.1
+one_record lines store life (report ∷ []) are = (report, refl)
+one_record lines store life (report ∷ other ∷ records) are = absurd are.1
 
 pub base_begins : (lines : ℕ) (begun : Begun RevisedStore) (lives : List (Life Op)) (image : Option Image) (base : Base) → HaveEnded (document_meaning lines) lines 2 (IsImageOfStore lines) begun lives image (Some base)
     → BeginsLife (document_meaning lines) lines (IsImageOfStore lines) begun base

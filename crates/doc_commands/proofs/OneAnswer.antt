@@ -45,8 +45,8 @@ all_commands_one region (a ∷ one) (b ∷ other) same xs ys =
     let tail : one ≡ other = all_commands_one region one other later (All-tail (IsLastCommand region) a one xs) (All-tail (IsLastCommand region) b other ys) in
     rw (head, tail) refl
 
-told_one : (base : Base) (one other : Recovered) → HasDocuments base one → HasDocuments base other → one ≡ other
-told_one base one other x y =
+recovered_one : (base : Base) (one other : Recovered) → HasDocuments base one → HasDocuments base other → one ≡ other
+recovered_one base one other x y =
     let made : ℕ → List Applied → List ((List ℕ × List ℕ) × ℕ) → Recovered = λ place outcomes documents. record { place = place; outcomes = outcomes; documents = documents } in
     let place : one.place ≡ other.place = x.place ∙ sym y.place in
     let outcomes : one.outcomes ≡ other.outcomes =
@@ -117,7 +117,7 @@ document_fault_one image f g x some y more =
 
 pub answers_one : (image : Image) (one other : Result Recovered ImageFault) → IsAnswerTo image one → IsAnswerTo image other
     → one ≢ Err Memory → other ≢ Err Memory → one ≡ other
-answers_one image (Ok a) (Ok b) x y some more = ap Ok (told_one (recovered_from (first_format image.lines) image) a b x.told y.told)
+answers_one image (Ok a) (Ok b) x y some more = ap Ok (recovered_one (recovered_from (first_format image.lines) image) a b x.has_documents y.has_documents)
 answers_one image (Ok a) (Err g) x y some more = absurd (tells_nothing image g y (λ e. more (ap Err e)) x.tells)
 answers_one image (Err f) (Ok b) x y some more = absurd (tells_nothing image f x (λ e. some (ap Err e)) y.tells)
 answers_one image (Err f) (Err g) x y some more =
@@ -133,14 +133,14 @@ part_is_image image base long is =
 pub answered : (image : Image) (base : Base) (answer : Result Recovered ImageFault) → 1168 ≤ length (region_of image)
     → IsRecovered 2 (IsImageOfStore image.lines) (first_format image.lines) image base
     → MatchResult answer (HasDocuments base) (IsOutcomesFault base.words) → IfOk answer (λ _. HoldsStoreReplies base.words) → IsAnswerTo image answer
-answered image base (Ok found) long is told replies = record {
+answered image base (Ok found) long is result_is replies = record {
   tells = record {
     accepted = is.accepted;
     replies = replies_stay (first_format image.lines) (region_of image) long (subst (λ (b : Base). HoldsStoreReplies b.words) is.is replies);
   };
-  told = subst (λ b. HasDocuments b found) is.is told;
+  has_documents = subst (λ b. HasDocuments b found) is.is result_is;
 }
-answered image base (Err Body) long is told replies =
-    inr (is.accepted, λ holds. subst (λ (b : Base). ¬ HoldsStoreReplies b.words) is.is told (replies_go_on (first_format image.lines) (region_of image) long holds))
-answered image base (Err Memory) long is told replies = tt
-answered image base (Err fault) long is told replies = absurd told
+answered image base (Err Body) long is result_is replies =
+    inr (is.accepted, λ holds. subst (λ (b : Base). ¬ HoldsStoreReplies b.words) is.is result_is (replies_go_on (first_format image.lines) (region_of image) long holds))
+answered image base (Err Memory) long is result_is replies = tt
+answered image base (Err fault) long is result_is replies = absurd result_is

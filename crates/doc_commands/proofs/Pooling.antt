@@ -30,14 +30,14 @@ may_run seats script life may one = record {
   few = (let few = may.limits.commands in let same : command_count script.lives ≡ command_count (life ∷ []) = ap command_count one in omega (arith, few, same));
 }
 
-pub runs : (seats : ℕ) (script : Script Op) (life : Life Op) (told : LifeRecord Reply) (remains : Remains) → script.lives ≡ life ∷ [] → HasPooled (document_meaning script.lines) script.lines (IsImageOfStore script.lines) (store_step script.lines) reads_in life seats told remains → RunsPool seats script told remains
-runs seats script life told remains one pooled = record {
-  are = subst (λ lives. AreOfDocumentPool script.lines seats lives (told ∷ []) (remains.trail ∷ [])) (sym one) (pooled.legal, pooled.tells, pooled.began);
+pub runs : (seats : ℕ) (script : Script Op) (life : Life Op) (report : LifeRecord Reply) (remains : Remains) → script.lives ≡ life ∷ [] → HasPooled (document_meaning script.lines) script.lines (IsImageOfStore script.lines) (store_step script.lines) reads_in life seats report remains → RunsPool seats script report remains
+runs seats script life report remains one pooled = record {
+  are = subst (λ lives. AreOfDocumentPool script.lines seats lives (report ∷ []) (remains.trail ∷ [])) (sym one) (pooled.legal, pooled.tells, pooled.began);
   callers = pooled.callers;
 }
 
 -- the lines of such records name commands of the script
 pub named : (lines seats : ℕ) (lives : List (Life Op)) (records : List (LifeRecord Reply)) (trails : List Ending) → AreOfDocumentPool lines seats lives records trails → NameCommands lives records
 named lines seats [] [] [] are = tt
-named lines seats (life ∷ []) (told ∷ []) (trail ∷ []) are = (let m = document_meaning lines in names_of_lives m 0 m.opening (life ∷ []) (told ∷ []) (are.0.legal, tt))
+named lines seats (life ∷ []) (report ∷ []) (trail ∷ []) are = (let m = document_meaning lines in names_of_lives m 0 m.opening (life ∷ []) (report ∷ []) (are.0.legal, tt))
 named lines seats _ _ _ are = absurd are

@@ -36,7 +36,7 @@ pub record TellsDocuments (image : Image) : Type 0 where
 -- version 1 that is upgraded, so that each pair has revision 1.
 pub record IsRecoveredOf (image : Image) (found : Recovered) : Type 0 where
   pub tells : TellsDocuments image
-  pub told : HasDocuments (recovered_from (first_format image.lines) image) found
+  pub has_documents : HasDocuments (recovered_from (first_format image.lines) image) found
 
 -- The fault of an image: the first check that it does not pass. That the slots hold replies is looked at last. Nothing is said of when
 -- memory runs out.

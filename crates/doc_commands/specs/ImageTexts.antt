@@ -37,7 +37,7 @@ pub record IsRecoveredText (input text : List ℕ) : Type 0 where
   pub read : IsImageText input image
   pub found : Recovered
   pub is : IsRecoveredOf image found
-  pub told : text ≡ recovered_text found
+  pub text_is : text ≡ recovered_text found
 
 -- The text names the first check that the image in the input does not pass, with what was found there.
 pub record IsRefusedImage (input text : List ℕ) : Type 0 where

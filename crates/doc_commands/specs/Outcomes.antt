@@ -44,7 +44,7 @@ abbrev pub TellsSlot : ℕ → List ℕ → Option Applied → Type 0
 TellsSlot client region None = slot_number client region ≡ 0
 TellsSlot client region (Some applied) = (applied.client ≡ client) × (slot_number client region ≢ 0) × IsLastCommand region applied
 
--- ---- faults: words of no reply, or out of memory
+-- ---- faults
 
 -- why there is no reply: the words are those of none, or memory ran out
 abbrev pub IsReplyFault : List ℕ → ImageFault → Type 0

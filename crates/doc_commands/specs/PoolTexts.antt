@@ -26,8 +26,8 @@ pub record MayPool (seats : ℕ) (script : Script Op) : Type 0 where
 -- a linearization, and which began with nothing. A script without a life has no record, and no log.
 abbrev pub AreOfPool : {Op Reply Store : Type 0} → Meaning Op Reply Store → ℕ → (List ℕ → Type 0) → (List ℕ → List ℕ → List ℕ × List ℕ) → (List ℕ → Bool) → ℕ → List (Life Op) → List (LifeRecord Reply) → List Ending → Type 0
 AreOfPool m lines is_lawful step reads seats [] [] [] = Unit {0}
-AreOfPool m lines is_lawful step reads seats (life ∷ []) (told ∷ []) (trail ∷ []) =
-    IsPoolLife m life told × IsPoolTold m lines is_lawful step reads life seats trail told × IsBaseOf m trail.base (nothing_begun m)
+AreOfPool m lines is_lawful step reads seats (life ∷ []) (report ∷ []) (trail ∷ []) =
+    IsPoolLife m life report × IsPoolTold m lines is_lawful step reads life seats trail report × IsBaseOf m trail.base (nothing_begun m)
 AreOfPool m lines is_lawful step reads seats lives records trails = ⊥
 
 -- the records and logs are those of a pool script over the document store in this many lines
@@ -35,8 +35,8 @@ abbrev pub AreOfDocumentPool : ℕ → ℕ → List (Life Op) → List (LifeReco
 AreOfDocumentPool lines = AreOfPool (document_meaning lines) lines (IsImageOfStore lines) (store_step lines) reads_in
 
 -- the record is that of a pool script's one life, and these are what its service left
-pub record RunsPool (seats : ℕ) (script : Script Op) (told : LifeRecord Reply) (remains : Remains) : Type 0 where
-  pub are : AreOfDocumentPool script.lines seats script.lives (told ∷ []) (remains.trail ∷ [])
+pub record RunsPool (seats : ℕ) (script : Script Op) (report : LifeRecord Reply) (remains : Remains) : Type 0 where
+  pub are : AreOfDocumentPool script.lines seats script.lives (report ∷ []) (remains.trail ∷ [])
   pub callers : remains.callers ≡ seats
 
 -- The text is the report of such records.

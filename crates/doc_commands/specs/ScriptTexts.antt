@@ -26,7 +26,7 @@ HaveStoresLived lines = HaveLived (document_meaning lines) lines 2 (IsImageOfSto
 -- recovery made of what a crash left of the one before: together they are one durable object.
 pub record AreRecords (script : Script Op) (trails : List Ending) (records : List (LifeRecord Reply)) : Type 0 where
   pub lives : AreLegalLives (document_meaning script.lines) script records
-  pub told : AreTold (document_meaning script.lines) script.lines 2 (IsImageOfStore script.lines) (store_step script.lines) reads_in script.lives records trails
+  pub witness : AreTold (document_meaning script.lines) script.lines 2 (IsImageOfStore script.lines) (store_step script.lines) reads_in script.lives records trails
 
 -- The text is the report of such records.
 pub record IsReport (script : Script Op) (trails : List Ending) (text : List ℕ) : Type 0 where
@@ -46,15 +46,15 @@ pub record IsLastImage (script : Script Op) (trails : List Ending) (text : List 
   pub are : AreRecords script trails records
   pub image : Option Image
   pub base : Option Base
-  pub left : image ≡ last_image None are.told.ends
-  pub goes_on : base ≡ last_next None are.told.ends
+  pub left : image ≡ last_image None are.witness.ends
+  pub goes_on : base ≡ last_next None are.witness.ends
   pub ends : HaveEnded (document_meaning script.lines) script.lines 2 (IsImageOfStore script.lines)
       (begun_by (document_meaning script.lines) (nothing_begun (document_meaning script.lines)) script.lives records) script.lives image base
   pub text_is : text ≡ text_left image
 
 -- the store that a first life leaves
 abbrev pub store_left : ℕ → Life Op → LifeRecord Reply → RevisedStore
-store_left lines life told = store_at (document_meaning lines) empty_store life told.journal told.kept
+store_left lines life report = store_at (document_meaning lines) empty_store life report.journal report.kept
 
 -- The text tells in four lines of a legal life of the script that a load makes. The documents and their sum are those of the store that
 -- it left.

@@ -38,4 +38,4 @@ verdict_text verdict = found_text verdict ++ codes "\n"
 pub record IsTraceVerdict (trace : Trace) (text : List ℕ) : Type 0 where
   pub verdict : Verdict
   pub is : IsVerdictFrom (fresh_base trace.lines) trace verdict
-  pub told : text ≡ verdict_text verdict
+  pub text_is : text ≡ verdict_text verdict

@@ -50,16 +50,16 @@ fn text_of_life(
     lived: &Lived<Reply>,
 ) -> Result<Vec<u8>, AllocError>
     requires { HaveStoresLived 1024 (generated_life from clients ops ∷ []) lived.now }
-    ensures { (told : record_life.LifeRecord Reply) → lived.now.records ≡ told ∷ [] → IfOk result (λ text. text.items ≡ summary_text told (store_left 1024 (generated_life from clients ops) told).triples) }
+    ensures { (report : record_life.LifeRecord Reply) → lived.now.records ≡ report ∷ [] → IfOk result (λ text. text.items ≡ summary_text report (store_left 1024 (generated_life from clients ops) report).triples) }
 {
-    let [told] = lived.records.as_slice() else {
+    let [report] = lived.records.as_slice() else {
         unreachable!()
     };
     let Some(base) = &lived.base else {
         unreachable!()
     };
     let pairs = pairs_of(alloc, base)?;
-    summary(alloc, told, &pairs)
+    summary(alloc, report, &pairs)
 }
 
 /// The pairs of the store that a base stands for.

@@ -54,9 +54,9 @@ pub fn report_of_pool<R: Threads + Wait + Sync, G: Gate + Sync>(
         let text = report(alloc, script, &[])?;
         return Ok((text, Items::new(alloc)));
     }
-    let (told, remains) = run_pool(rt, alloc, script, seats, gate)?;
+    let (life_report, remains) = run_pool(rt, alloc, script, seats, gate)?;
     let trails = one(alloc, remains.trail)?;
-    let records = one(alloc, told)?;
+    let records = one(alloc, life_report)?;
     let text = report(alloc, script, records.as_slice())?;
     Ok((text, trails))
 }

@@ -28,14 +28,14 @@ pub fn recovered(alloc: Global, image: &Image) -> Result<Recovered, ImageFault>
     ensures { IsAnswerTo image.now result }
 {
     let base = recover(alloc, &DocStore::of(image.lines), image)?;
-    told_by(alloc, &base)
+    found_in(alloc, &base)
 }
 
 /// What a base holds of documents: its place, the last command of each client with a number, and the store's pairs.
-fn told_by(alloc: Global, base: &Base) -> Result<Recovered, ImageFault>
+fn found_in(alloc: Global, base: &Base) -> Result<Recovered, ImageFault>
     requires words { OBJECT_START ≤ length base.now.words }
     requires lawful { (lines : ℕ) × IsImageOfStore lines (object_part base.now.words) }
-    ensures told { MatchResult result (HasDocuments base.now) (IsOutcomesFault base.now.words) }
+    ensures found { MatchResult result (HasDocuments base.now) (IsOutcomesFault base.now.words) }
     ensures replies { IfOk result (λ _. HoldsStoreReplies base.now.words) }
 {
     let outcomes = outcomes_of(alloc, base)?;

@@ -10,9 +10,9 @@ use Rattle.fifo_commands.specs.declared.record.FifoRecord.{FifoRecord}
 pub legal_named : (lines place : ℕ) (queue : Queue) (lives : List FifoLife) (records : List FifoRecord)
     → AreFifoLivesFrom lines place queue lives records → NameCommands (map uncut lives) (map with_no_stops records)
 legal_named lines place queue [] [] are = tt
-legal_named lines place queue (life ∷ lives) (told ∷ records) are = (
+legal_named lines place queue (life ∷ lives) (report ∷ records) are = (
   record { journal = are.0.interleaved.named; reads = λ k d below. (are.0.legal_reads k d below).named },
-  legal_named lines (place + told.kept) (queue_at lines queue life told.journal told.kept) lives records are.1,
+  legal_named lines (place + report.kept) (queue_at lines queue life report.journal report.kept) lives records are.1,
 )
-legal_named lines place queue [] (told ∷ records) are = absurd are
+legal_named lines place queue [] (report ∷ records) are = absurd are
 legal_named lines place queue (life ∷ lives) [] are = absurd are

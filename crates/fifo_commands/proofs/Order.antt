@@ -14,11 +14,11 @@ after_both lines queue (op ∷ a) b = after_both lines (queue_after lines queue 
 
 left_is : (lines place : ℕ) (queue : Queue) (lives : List FifoLife) (records : List FifoRecord) → AreFifoLivesFrom lines place queue lives records → queue_after_all lines queue (kept_ops lives records) ≡ left_from lines queue lives records
 left_is lines place queue [] [] are = refl
-left_is lines place queue [] (told ∷ records) are = absurd are
+left_is lines place queue [] (report ∷ records) are = absurd are
 left_is lines place queue (life ∷ lives) [] are = absurd are
-left_is lines place queue (life ∷ lives) (told ∷ records) are =
-    after_both lines queue (ops_of (uncut life) (take told.kept told.journal)) (kept_ops lives records)
-    ∙ left_is lines (place + told.kept) (queue_at lines queue life told.journal told.kept) lives records are.1
+left_is lines place queue (life ∷ lives) (report ∷ records) are =
+    after_both lines queue (ops_of (uncut life) (take report.kept report.journal)) (kept_ops lives records)
+    ∙ left_is lines (place + report.kept) (queue_at lines queue life report.journal report.kept) lives records are.1
 
 pub lives_keep : (lines : ℕ) (lives : List FifoLife) (records : List FifoRecord) → AreFifoLives lines lives records → all_pushed lines [] (kept_ops lives records) ≡ all_popped lines [] (kept_ops lives records) ++ items_left lines lives records
 lives_keep lines lives records are =

@@ -26,46 +26,46 @@ reply_at : (lines : ℕ) (one other : Queue) (life : FifoLife) (client command :
     IfSome (named_op (uncut life) client command) (λ op. reply ≡ reply_to lines one op) → CommandHasReply lines other life client command reply
 reply_at lines one other life client command reply same has = subst (λ q. CommandHasReply lines q life client command reply) same has
 
-module _ (lines place : ℕ) (queue : Queue) (life : FifoLife) (told : LifeRecord FifoReply) (is : IsLegalLife (fifo_meaning lines) place queue (uncut life) told) where
-  abbrev legal : IsLegal (fifo_meaning lines) place queue (uncut life) told
+module _ (lines place : ℕ) (queue : Queue) (life : FifoLife) (report : LifeRecord FifoReply) (is : IsLegalLife (fifo_meaning lines) place queue (uncut life) report) where
+  abbrev legal : IsLegal (fifo_meaning lines) place queue (uncut life) report
   legal = is.legal
 
-  pub no_stop : told.stops ≡ []
-  no_stop = none_of (IsLegalStop (uncut life)) told.stops legal.stops (λ line stop. (let limit : line.steps ≡ 2 ^ 64 - 1 = stop.steps in omega (arith, limit, stop.limit)))
+  pub no_stop : report.stops ≡ []
+  no_stop = none_of (IsLegalStop (uncut life)) report.stops legal.stops (λ line stop. (let limit : line.steps ≡ 2 ^ 64 - 1 = stop.steps in omega (arith, limit, stop.limit)))
 
-  pub no_full : told.fulls ≡ []
-  no_full = none_of (IsLegalFull (uncut life) told) told.fulls legal.fulls (λ line full.
+  pub no_full : report.fulls ≡ []
+  no_full = none_of (IsLegalFull (uncut life) report) report.fulls legal.fulls (λ line full.
       let stopped : is_stopped line.note.holder [] ≡ true = ap (is_stopped line.note.holder) (sym no_stop) ∙ full.stopped in cc)
 
-  all_of : (client : ℕ) (e : HasEnded (uncut life) told client) → e.answered ≡ length (own_ops client life.commands)
+  all_of : (client : ℕ) (e : HasEnded (uncut life) report client) → e.answered ≡ length (own_ops client life.commands)
   all_of client e = elim e.over [
     | inl all ↦ all
     | inr (inl stop) ↦ (let no : has_stop client (e.answered + 1) [] ≡ true = ap (has_stop client (e.answered + 1)) (sym no_stop) ∙ stop in cc)
     | inr (inr full) ↦ (let no : has_full client (e.answered + 1) [] ≡ true = ap (has_full client (e.answered + 1)) (sym no_full) ∙ full in cc)
   ]
 
-  replied : (client answered : ℕ) (line : JournalLine FifoReply) → IsEndedEntry client answered told.stops line → IsSome line.reply
+  replied : (client answered : ℕ) (line : JournalLine FifoReply) → IsEndedEntry client answered report.stops line → IsSome line.reply
   replied client answered line (inl done) = done.2
   replied client answered line (inr last) = (let no : has_stop client (answered + 1) [] ≡ true = ap (has_stop client (answered + 1)) (sym no_stop) ∙ last.2 in cc)
 
-  at_is : (n : ℕ) → store_at (fifo_meaning lines) queue (uncut life) told.journal n ≡ queue_at lines queue life told.journal n
-  at_is n = after_is lines queue (ops_of (uncut life) (take n told.journal))
+  at_is : (n : ℕ) → store_at (fifo_meaning lines) queue (uncut life) report.journal n ≡ queue_at lines queue life report.journal n
+  at_is n = after_is lines queue (ops_of (uncut life) (take n report.journal))
 
-  reply_is : (n client command : ℕ) (reply : Option FifoReply) → IfSome reply (CommandHasReply lines (store_at (fifo_meaning lines) queue (uncut life) told.journal n) life client command) →
-      IfSome reply (CommandHasReply lines (queue_at lines queue life told.journal n) life client command)
-  reply_is n client command (Some reply) has = reply_at lines (store_at (fifo_meaning lines) queue (uncut life) told.journal n) (queue_at lines queue life told.journal n) life client command reply (at_is n) has
+  reply_is : (n client command : ℕ) (reply : Option FifoReply) → IfSome reply (CommandHasReply lines (store_at (fifo_meaning lines) queue (uncut life) report.journal n) life client command) →
+      IfSome reply (CommandHasReply lines (queue_at lines queue life report.journal n) life client command)
+  reply_is n client command (Some reply) has = reply_at lines (store_at (fifo_meaning lines) queue (uncut life) report.journal n) (queue_at lines queue life report.journal n) life client command reply (at_is n) has
   reply_is n client command None has = has
 
-  read_is : (line : ReadLine FifoReply) → IsLegalRead (fifo_meaning lines) place queue (uncut life) told.journal line → IsFifoRead lines place queue life told.journal line
+  read_is : (line : ReadLine FifoReply) → IsLegalRead (fifo_meaning lines) place queue (uncut life) report.journal line → IsFifoRead lines place queue life report.journal line
   read_is line r = record {
     named = r.named;
     reads = r.reads;
     from = r.from;
     to = r.to;
-    reply = reply_at lines (store_at (fifo_meaning lines) queue (uncut life) told.journal (line.place - place)) (queue_at lines queue life told.journal (line.place - place)) life line.client line.command line.reply (at_is (line.place - place)) r.reply;
+    reply = reply_at lines (store_at (fifo_meaning lines) queue (uncut life) report.journal (line.place - place)) (queue_at lines queue life report.journal (line.place - place)) life line.client line.command line.reply (at_is (line.place - place)) r.reply;
   }
 
-  pub fifo_life : IsFifoLife lines place queue life (without_cuts told)
+  pub fifo_life : IsFifoLife lines place queue life (without_cuts report)
   fifo_life = record {
     clients = is.clients;
     choice = is.choice;
@@ -78,14 +78,14 @@ module _ (lines place : ℕ) (queue : Queue) (life : FifoLife) (told : LifeRecor
           let e = legal.ended client takes_part in
           e.once command one (omega (arith, up, all_of client e)));
       replies = λ k d within. (
-          let line = get_or told.journal k d in
+          let line = get_or report.journal k d in
           let e = legal.ended line.client (legal.interleaved.named k d within).takes_part in
           replied line.client e.answered line (e.entries k d within refl));
     };
     replies = λ i line there. reply_is i line.client line.command line.reply (legal.replies i line there);
-    legal_reads = All-weaker (IsLegalRead (fifo_meaning lines) place queue (uncut life) told.journal) (IsFifoRead lines place queue life told.journal) read_is told.reads legal.legal_reads;
+    legal_reads = All-weaker (IsLegalRead (fifo_meaning lines) place queue (uncut life) report.journal) (IsFifoRead lines place queue life report.journal) read_is report.reads legal.legal_reads;
     in_turn = legal.in_turn;
     prefix = is.kept.prefix;
     kept = is.kept.answered;
-    items = is.kept.items ∙ ap length (at_is told.kept);
+    items = is.kept.items ∙ ap length (at_is report.kept);
   }

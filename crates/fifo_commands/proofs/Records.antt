@@ -21,34 +21,34 @@ same_length lives records named =
 life_at : (lives : List FifoLife) (n : ℕ) (life : FifoLife) → n < length lives → life ≡ get_or lives n life → uncut life ≡ get_or (map uncut lives) n (uncut life)
 life_at lives n life within is = ap uncut is ∙ sym (get_or-map uncut lives n life (uncut life) within)
 
-told_at : (records : List FifoRecord) (n : ℕ) (told : FifoRecord) → n < length records → told ≡ get_or records n told → with_no_stops told ≡ get_or (map with_no_stops records) n (with_no_stops told)
-told_at records n told within is = ap with_no_stops is ∙ sym (get_or-map with_no_stops records n told (with_no_stops told) within)
+report_at : (records : List FifoRecord) (n : ℕ) (report : FifoRecord) → n < length records → report ≡ get_or records n report → with_no_stops report ≡ get_or (map with_no_stops records) n (with_no_stops report)
+report_at records n report within is = ap with_no_stops is ∙ sym (get_or-map with_no_stops records n report (with_no_stops report) within)
 
 inside : (records : List FifoRecord) (n : ℕ) → n < length records → n < length (map with_no_stops records)
 inside records n below = omega (arith, below, length-map records with_no_stops)
 
-module _ (lives : List FifoLife) (records : List FifoRecord) (n : ℕ) (life : FifoLife) (told : FifoRecord) (named : AreNamed lives records)
-    (below : n < length records) (life_is : life ≡ get_or lives n life) (told_is : told ≡ get_or records n told) where
+module _ (lives : List FifoLife) (records : List FifoRecord) (n : ℕ) (life : FifoLife) (report : FifoRecord) (named : AreNamed lives records)
+    (below : n < length records) (life_is : life ≡ get_or lives n life) (report_is : report ≡ get_or records n report) where
   within : n < length lives
   within = omega (arith, below, same_length lives records named)
 
   -- the lines of each record name commands of its life
-  pub named_at : NamesCommands (uncut life) (with_no_stops told)
+  pub named_at : NamesCommands (uncut life) (with_no_stops report)
   named_at =
-      subst (λ l. NamesCommands l (with_no_stops told)) (sym (life_at lives n life within life_is))
-      (subst (λ t. NamesCommands (get_or (map uncut lives) n (uncut life)) t) (sym (told_at records n told below told_is))
-      (NamesCommands_at (map uncut lives) (map with_no_stops records) n (uncut life) (with_no_stops told) named (inside records n below)))
+      subst (λ l. NamesCommands l (with_no_stops report)) (sym (life_at lives n life within life_is))
+      (subst (λ t. NamesCommands (get_or (map uncut lives) n (uncut life)) t) (sym (report_at records n report below report_is))
+      (NamesCommands_at (map uncut lives) (map with_no_stops records) n (uncut life) (with_no_stops report) named (inside records n below)))
 
   -- a step of the loop that goes through records: this record's text is put at the end
   pub one_more : (before after : List ℕ) → before ≡ records_text queue_wording 0 (take n (map uncut lives)) (take n (map with_no_stops records))
-      → after ≡ before ++ record_text queue_wording n (uncut life) (with_no_stops told)
+      → after ≡ before ++ record_text queue_wording n (uncut life) (with_no_stops report)
       → after ≡ records_text queue_wording 0 (take (n + 1) (map uncut lives)) (take (n + 1) (map with_no_stops records))
   one_more before after so_far written =
-      records_text-step queue_wording (map uncut lives) (map with_no_stops records) n (uncut life) (uncut life) (with_no_stops told) before after
-      named (inside records n below) (life_at lives n life within life_is) (told_at records n told below told_is) refl so_far written
+      records_text-step queue_wording (map uncut lives) (map with_no_stops records) n (uncut life) (uncut life) (with_no_stops report) before after
+      named (inside records n below) (life_at lives n life within life_is) (report_at records n report below report_is) refl so_far written
 
 -- the text of all records
-pub all_told : (lives : List FifoLife) (records : List FifoRecord) (n : ℕ) → AreNamed lives records → length records ≤ n
+pub all_texts : (lives : List FifoLife) (records : List FifoRecord) (n : ℕ) → AreNamed lives records → length records ≤ n
     → records_text queue_wording 0 (take n (map uncut lives)) (take n (map with_no_stops records)) ≡ records_text queue_wording 0 (map uncut lives) (map with_no_stops records)
-all_told lives records n named all =
+all_texts lives records n named all =
     records_text-all queue_wording (map uncut lives) (map with_no_stops records) n named (omega (arith, all, length-map records with_no_stops))

@@ -73,21 +73,21 @@ reply_is lines store queue (Some op) (Some r) same named replied has = ap reply_
 reply_is lines store queue None reply same named replied has = (let no : false ≡ true = named in cc)
 reply_is lines store queue (Some op) None same named replied has = (let no : false ≡ true = replied in cc)
 
-each_reply : (lines place : ℕ) (store queue : Queue) (life : FifoLife) (told : FifoRecord) → store ≡ queue → IsFifoLife lines place queue life told → HasEachReply lines store (uncut life) told.journal
-each_reply lines place store queue life told same is k line at =
-    reply_is lines (store_at (fifo_meaning lines) store (uncut life) told.journal k) (queue_at lines queue life told.journal k) (named_op (uncut life) line.client line.command) line.reply
-    (ap (λ s. store_at (fifo_meaning lines) s (uncut life) told.journal k) same ∙ after_is lines queue (ops_of (uncut life) (take k told.journal)))
-    (all_at (λ (l : JournalLine FifoReply). IsSome (named_op (uncut life) l.client l.command)) told.journal k line (λ i d within. (is.interleaved.named i d within).there) at)
-    (all_at (λ (l : JournalLine FifoReply). IsSome l.reply) told.journal k line is.answered.replies at)
+each_reply : (lines place : ℕ) (store queue : Queue) (life : FifoLife) (report : FifoRecord) → store ≡ queue → IsFifoLife lines place queue life report → HasEachReply lines store (uncut life) report.journal
+each_reply lines place store queue life report same is k line at =
+    reply_is lines (store_at (fifo_meaning lines) store (uncut life) report.journal k) (queue_at lines queue life report.journal k) (named_op (uncut life) line.client line.command) line.reply
+    (ap (λ s. store_at (fifo_meaning lines) s (uncut life) report.journal k) same ∙ after_is lines queue (ops_of (uncut life) (take k report.journal)))
+    (all_at (λ (l : JournalLine FifoReply). IsSome (named_op (uncut life) l.client l.command)) report.journal k line (λ i d within. (is.interleaved.named i d within).there) at)
+    (all_at (λ (l : JournalLine FifoReply). IsSome l.reply) report.journal k line is.answered.replies at)
     (is.replies k line at)
 
 -- ---- the entries of lives
 
-kept_more : (client : ℕ) (before : List FifoRecord) (told : FifoRecord) → kept_of client (before ++ told ∷ []) ≡ kept_of client before ++ mine client (take told.kept told.journal)
-kept_more client [] told = append-nil (mine client (take told.kept told.journal))
-kept_more client (first ∷ before) told =
-    ap (λ ls. mine client (take first.kept first.journal) ++ ls) (kept_more client before told)
-    ∙ sym (append_assoc (mine client (take first.kept first.journal)) (kept_of client before) (mine client (take told.kept told.journal)))
+kept_more : (client : ℕ) (before : List FifoRecord) (report : FifoRecord) → kept_of client (before ++ report ∷ []) ≡ kept_of client before ++ mine client (take report.kept report.journal)
+kept_more client [] report = append-nil (mine client (take report.kept report.journal))
+kept_more client (first ∷ before) report =
+    ap (λ ls. mine client (take first.kept first.journal) ++ ls) (kept_more client before report)
+    ∙ sym (append_assoc (mine client (take first.kept first.journal)) (kept_of client before) (mine client (take report.kept report.journal)))
 
 last_more : (words : List ℕ) (a b : List (JournalLine FifoReply)) → last_words (last_words words a) b ≡ last_words words (a ++ b)
 last_more words [] b = refl
@@ -96,32 +96,32 @@ last_more words (line ∷ a) b = last_more (words_of_reply line.reply) a b
 abbrev result_of : ℕ → List FifoRecord → ℕ × List ℕ
 result_of client records = result (length (kept_of client records)) (last_words (replicate 144 0) (kept_of client records))
 
-result_more : (client : ℕ) (before : List FifoRecord) (told : FifoRecord) → with_more (result_of client before) (mine client (take told.kept told.journal)) ≡ result_of client (before ++ told ∷ [])
-result_more client before told =
-    let own = mine client (take told.kept told.journal) in
+result_more : (client : ℕ) (before : List FifoRecord) (report : FifoRecord) → with_more (result_of client before) (mine client (take report.kept report.journal)) ≡ result_of client (before ++ report ∷ [])
+result_more client before report =
+    let own = mine client (take report.kept report.journal) in
     ap₂ result (sym (length-append (kept_of client before) own)) (last_more (replicate 144 0) (kept_of client before) own)
-    ∙ ap (λ ls. result (length ls) (last_words (replicate 144 0) ls)) (sym (kept_more client before told))
+    ∙ ap (λ ls. result (length ls) (last_words (replicate 144 0) ls)) (sym (kept_more client before report))
 
 results_from : (lines place : ℕ) (queue : Queue) (before : List FifoRecord) (begun : Begun Queue) (base : Base) (lives : List FifoLife) (records : List FifoRecord) (trails : List Ending) (ends : List LifeEnd) →
     AreFifoLivesFrom lines place queue lives records → AreToldFrom (fifo_meaning lines) lines 16 (IsFifo lines) (fifo_step lines) fifo_reads begun base (map uncut lives) (map with_no_stops records) trails ends →
     begun.store ≡ queue → ((client : ℕ) → begun.results client ≡ result_of client before) → (i : ℕ) (trail : Ending) → slice_get trails i ≡ Some trail → HasResultsOf (before ++ take i records) trail.base
-results_from lines place queue before begun base [] [] [] ends are told same results i trail at = absurd (none-some trail at)
-results_from lines place queue before begun base [] [] (first ∷ trails) ends are told same results i trail at = absurd told
-results_from lines place queue before begun base [] (one ∷ records) trails ends are told same results i trail at = absurd are
-results_from lines place queue before begun base (life ∷ lives) [] trails ends are told same results i trail at = absurd are
-results_from lines place queue before begun base (life ∷ lives) (one ∷ records) [] ends are told same results i trail at = absurd told
-results_from lines place queue before begun base (life ∷ lives) (one ∷ records) (first ∷ trails) [] are told same results i trail at = absurd told
-results_from lines place queue before begun base (life ∷ lives) (one ∷ records) (first ∷ trails) (end_ ∷ ends) are told same results zero trail at =
-    let is = told.0.based in
+results_from lines place queue before begun base [] [] [] ends are are_told same results i trail at = absurd (none-some trail at)
+results_from lines place queue before begun base [] [] (first ∷ trails) ends are are_told same results i trail at = absurd are_told
+results_from lines place queue before begun base [] (one ∷ records) trails ends are are_told same results i trail at = absurd are
+results_from lines place queue before begun base (life ∷ lives) [] trails ends are are_told same results i trail at = absurd are
+results_from lines place queue before begun base (life ∷ lives) (one ∷ records) [] ends are are_told same results i trail at = absurd are_told
+results_from lines place queue before begun base (life ∷ lives) (one ∷ records) (first ∷ trails) [] are are_told same results i trail at = absurd are_told
+results_from lines place queue before begun base (life ∷ lives) (one ∷ records) (first ∷ trails) (end_ ∷ ends) are are_told same results zero trail at =
+    let is = are_told.0.based in
     subst (λ (t : Ending). HasResultsOf (before ++ []) t.base) (same_Some first trail at)
     (subst (λ rs. HasResultsOf rs first.base) (sym (append-nil before)) (record {
       numbers = λ client below. is.numbers client below ∙ ap (λ (r : ℕ × List ℕ). r.0) (results client);
       replies = λ client below. is.replies client below ∙ ap (λ (r : ℕ × List ℕ). r.1) (results client);
     }))
-results_from lines place queue before begun base (life ∷ lives) (one ∷ records) (first ∷ trails) (end_ ∷ ends) are told same results (suc i) trail at =
+results_from lines place queue before begun base (life ∷ lives) (one ∷ records) (first ∷ trails) (end_ ∷ ends) are are_told same results (suc i) trail at =
     let m = fifo_meaning lines in
     subst (λ rs. HasResultsOf rs trail.base) (append_assoc before (one ∷ []) (take i records))
-    (results_from lines (place + one.kept) (queue_at lines queue life one.journal one.kept) (before ++ one ∷ []) (begun_after m begun (uncut life) one.journal one.kept) end_.next lives records trails ends are.1 told.1
+    (results_from lines (place + one.kept) (queue_at lines queue life one.journal one.kept) (before ++ one ∷ []) (begun_after m begun (uncut life) one.journal one.kept) end_.next lives records trails ends are.1 are_told.1
     (ap (λ s. store_at m s (uncut life) one.journal one.kept) same ∙ after_is lines queue (ops_of (uncut life) (take one.kept one.journal)))
     (λ client. results_are lines begun.store (uncut life) one.kept one.journal begun.results client (each_reply lines place begun.store queue life one same are.0)
     ∙ ap (λ (r : ℕ × List ℕ). with_more r (mine client (take one.kept one.journal))) (results client)
@@ -130,4 +130,4 @@ results_from lines place queue before begun base (life ∷ lives) (one ∷ recor
 
 pub have_results : (lines : ℕ) (lives : List FifoLife) (lived : FifoLived) → HaveFifoLived lines lives lived → (i : ℕ) (trail : Ending) → slice_get lived.trails i ≡ Some trail → HasResultsOf (take i lived.records) trail.base
 have_results lines lives lived have i trail at =
-    results_from lines 0 [] [] (nothing_begun (fifo_meaning lines)) have.told.first lives lived.records lived.trails have.told.ends have.legal have.told.each refl (λ client. refl) i trail at
+    results_from lines 0 [] [] (nothing_begun (fifo_meaning lines)) have.witness.first lives lived.records lived.trails have.witness.ends have.legal have.witness.each refl (λ client. refl) i trail at

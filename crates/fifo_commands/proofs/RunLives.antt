@@ -24,53 +24,53 @@ use Rattle.fifo_commands.specs.declared.runs.FifoLived.{FifoLived}
 lives_from : (lines place : ℕ) (queue : Queue) (lives : List FifoLife) (records : List (LifeRecord FifoReply)) → AreLivesFrom (fifo_meaning lines) place queue (map uncut lives) records →
     AreFifoLivesFrom lines place queue lives (map without_cuts records)
 lives_from lines place queue [] [] are = tt
-lives_from lines place queue [] (told ∷ records) are = absurd are
+lives_from lines place queue [] (report ∷ records) are = absurd are
 lives_from lines place queue (life ∷ lives) [] are = absurd are
-lives_from lines place queue (life ∷ lives) (told ∷ records) are = (
-  fifo_life lines place queue life told are.0,
-  subst (λ q. AreFifoLivesFrom lines (place + told.kept) q lives (map without_cuts records)) (after_is lines queue (ops_of (uncut life) (take told.kept told.journal)))
-      (lives_from lines (place + told.kept) _ lives records are.1),
+lives_from lines place queue (life ∷ lives) (report ∷ records) are = (
+  fifo_life lines place queue life report are.0,
+  subst (λ q. AreFifoLivesFrom lines (place + report.kept) q lives (map without_cuts records)) (after_is lines queue (ops_of (uncut life) (take report.kept report.journal)))
+      (lives_from lines (place + report.kept) _ lives records are.1),
 )
 
 -- a record in which no client was stopped or ran out of free cells
-same_record : (lines place : ℕ) (queue : Queue) (life : FifoLife) (told : LifeRecord FifoReply) → IsLegalLife (fifo_meaning lines) place queue (uncut life) told → with_no_stops (without_cuts told) ≡ told
-same_record lines place queue life told is =
+same_record : (lines place : ℕ) (queue : Queue) (life : FifoLife) (report : LifeRecord FifoReply) → IsLegalLife (fifo_meaning lines) place queue (uncut life) report → with_no_stops (without_cuts report) ≡ report
+same_record lines place queue life report is =
     let with_both : List StopLine → List FullLine → LifeRecord FifoReply = λ stops fulls. record {
-      clients = told.clients;
-      from = told.from;
-      journal = told.journal;
-      reads = told.reads;
+      clients = report.clients;
+      from = report.from;
+      journal = report.journal;
+      reads = report.reads;
       stops = stops;
       fulls = fulls;
-      choice = told.choice;
-      kept = told.kept;
-      items = told.items;
+      choice = report.choice;
+      kept = report.kept;
+      items = report.items;
     } in
-    ap₂ with_both (sym (no_stop lines place queue life told is)) (sym (no_full lines place queue life told is))
+    ap₂ with_both (sym (no_stop lines place queue life report is)) (sym (no_full lines place queue life report is))
 
 same_records : (lines place : ℕ) (queue : Queue) (lives : List FifoLife) (records : List (LifeRecord FifoReply)) → AreLivesFrom (fifo_meaning lines) place queue (map uncut lives) records →
     map with_no_stops (map without_cuts records) ≡ records
 same_records lines place queue [] [] are = refl
-same_records lines place queue [] (told ∷ records) are = absurd are
+same_records lines place queue [] (report ∷ records) are = absurd are
 same_records lines place queue (life ∷ lives) [] are = absurd are
-same_records lines place queue (life ∷ lives) (told ∷ records) are =
-    ap₂ (λ t ts. t ∷ ts) (same_record lines place queue life told are.0) (same_records lines (place + told.kept) _ lives records are.1)
+same_records lines place queue (life ∷ lives) (report ∷ records) are =
+    ap₂ (λ t ts. t ∷ ts) (same_record lines place queue life report are.0) (same_records lines (place + report.kept) _ lives records are.1)
 
 pub lived_is : (lines : ℕ) (lives : List FifoLife) (lived : Lived FifoReply) (left : FifoLived) → HaveLived (fifo_meaning lines) lines 16 (IsFifo lines) (fifo_step lines) fifo_reads (map uncut lives) lived →
     left.records ≡ map without_cuts lived.records → left.trails ≡ lived.trails → HaveFifoLived lines lives left
 lived_is lines lives lived left have records trails = record {
   legal = subst (λ rs. AreFifoLivesFrom lines 0 [] lives rs) (sym records) (lives_from lines 0 [] lives lived.records have.legal);
-  told =
+  witness =
       subst (λ ts. AreTold (fifo_meaning lines) lines 16 (IsFifo lines) (fifo_step lines) fifo_reads (map uncut lives) (map with_no_stops left.records) ts) (sym trails)
       (subst (λ rs. AreTold (fifo_meaning lines) lines 16 (IsFifo lines) (fifo_step lines) fifo_reads (map uncut lives) (map with_no_stops rs) lived.trails) (sym records)
-      (subst (λ rs. AreTold (fifo_meaning lines) lines 16 (IsFifo lines) (fifo_step lines) fifo_reads (map uncut lives) rs lived.trails) (sym (same_records lines 0 [] lives lived.records have.legal)) have.told));
+      (subst (λ rs. AreTold (fifo_meaning lines) lines 16 (IsFifo lines) (fifo_step lines) fifo_reads (map uncut lives) rs lived.trails) (sym (same_records lines 0 [] lives lived.records have.legal)) have.witness));
 }
 
 -- no lives
 pub none_lived_of : (lines : ℕ) (records : List FifoRecord) (trails : List Ending) → records ≡ [] → trails ≡ [] → HaveFifoLived lines [] (record { records = records; trails = trails })
 none_lived_of lines records trails none empty =
     subst (λ rs. HaveFifoLived lines [] (record { records = rs; trails = trails })) (sym none) (subst (λ ts. HaveFifoLived lines [] (record { records = []; trails = ts })) (sym empty)
-    (record { legal = tt; told = (none_lived (fifo_meaning lines) lines 16 (IsFifo lines) (fifo_step lines) fifo_reads).told }))
+    (record { legal = tt; witness = (none_lived (fifo_meaning lines) lines 16 (IsFifo lines) (fifo_step lines) fifo_reads).witness }))
 
 -- ---- a life more of a script
 

@@ -98,6 +98,7 @@ why : (text : Option (List ℕ)) (reason : FifoReason) → asked_queue_op text �
 why None reason e = ap Some cc
 why (Some text) reason e = verb_why (queue_verb_of (first_word text)) (rest_of text) reason e
 
+-- Commands on a queue are read by their rules.
 pub reads_queue_commands : ReadsCommands queue_commands asked_queue_op
 reads_queue_commands = record {
   clients = omega arith;

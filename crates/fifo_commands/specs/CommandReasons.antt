@@ -24,8 +24,10 @@ has_queue_words _ words = not (is_some words)
 abbrev pub has_no_queue_text : Option (List ℕ) → Bool
 has_no_queue_text words = option_map_or (λ text. not (is_text text)) words false
 
+-- why the words behind a verb are refused: there are not as many as it takes, or the word is no text
 abbrev pub queue_word_rows : Option Verb → Option (List ℕ) → List (Row FifoReason)
 queue_word_rows verb words = (not (has_queue_words verb words), reasons.Command) ∷ (has_no_queue_text words, reasons.Text) ∷ []
 
+-- why a command on a queue is refused: by its first word, the verb, and what stands behind it
 abbrev pub queue_command_rows : Option (List ℕ) → List (Row FifoReason)
 queue_command_rows text = queue_word_rows (option_and_then (λ t. queue_verb_of (first_word t)) text) (option_and_then rest_of text)

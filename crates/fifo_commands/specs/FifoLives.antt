@@ -22,10 +22,10 @@ abbrev pub CommandHasReply : ℕ → Queue → FifoLife → ℕ → ℕ → Fifo
 CommandHasReply lines queue life client command reply = IfSome (named_op (uncut life) client command) (λ op. reply ≡ reply_to lines queue op)
 
 -- each command of each client has exactly one line, with a reply
-pub record AreCommandsAnswered (life : FifoLife) (told : FifoRecord) : Type 0 where
+pub record AreCommandsAnswered (life : FifoLife) (report : FifoRecord) : Type 0 where
   pub once : (client command : ℕ) → client < life.clients → 1 ≤ command → command ≤ length (own_ops client life.commands) →
-      count_to client command (answers_of told.journal told.reads) ≡ 1
-  pub replies : All (λ line. IsSome line.reply) told.journal
+      count_to client command (answers_of report.journal report.reads) ≡ 1
+  pub replies : All (λ line. IsSome line.reply) report.journal
 
 -- a read beside the history: its place is in it, and its reply is that of the queue after the entries below its place
 pub record IsFifoRead (lines place : ℕ) (queue : Queue) (life : FifoLife) (journal : List (JournalLine FifoReply)) (line : ReadLine FifoReply) : Type 0 where
@@ -36,37 +36,38 @@ pub record IsFifoRead (lines place : ℕ) (queue : Queue) (life : FifoLife) (jou
   pub reply : CommandHasReply lines (queue_at lines queue life journal (line.place - place)) life line.client line.command line.reply
 
 -- a record of a life that begins at a place with a queue
-pub record IsFifoLife (lines place : ℕ) (queue : Queue) (life : FifoLife) (told : FifoRecord) : Type 0 where
-  pub clients : told.clients ≡ life.clients
-  pub choice : told.choice ≡ life.choice
-  pub from : told.from ≡ place
+pub record IsFifoLife (lines place : ℕ) (queue : Queue) (life : FifoLife) (report : FifoRecord) : Type 0 where
+  pub clients : report.clients ≡ life.clients
+  pub choice : report.choice ≡ life.choice
+  pub from : report.from ≡ place
   -- one history, that interleaves the clients' commands
-  pub tickets : (i : ℕ) (line : JournalLine FifoReply) → slice_get told.journal i ≡ Some line → line.ticket ≡ place + i
-  pub interleaved : Interleaves (uncut life) told.journal
-  pub reads_in_order : AllPairs IsReadBefore told.reads
+  pub tickets : (i : ℕ) (line : JournalLine FifoReply) → slice_get report.journal i ≡ Some line → line.ticket ≡ place + i
+  pub interleaved : Interleaves (uncut life) report.journal
+  pub reads_in_order : AllPairs IsReadBefore report.reads
   -- each command is answered once
-  pub answered : AreCommandsAnswered life told
+  pub answered : AreCommandsAnswered life report
   -- each reply is the queue's at its place
-  pub replies : (i : ℕ) (line : JournalLine FifoReply) → slice_get told.journal i ≡ Some line →
-      IfSome line.reply (CommandHasReply lines (queue_at lines queue life told.journal i) life line.client line.command)
-  pub legal_reads : All (IsFifoRead lines place queue life told.journal) told.reads
+  pub replies : (i : ℕ) (line : JournalLine FifoReply) → slice_get report.journal i ≡ Some line →
+      IfSome line.reply (CommandHasReply lines (queue_at lines queue life report.journal i) life line.client line.command)
+  pub legal_reads : All (IsFifoRead lines place queue life report.journal) report.reads
   -- no answer to a client lies below what the client was told before
-  pub in_turn : (a b : ClientAnswer) → Contains (answers_of told.journal told.reads) a → Contains (answers_of told.journal told.reads) b →
+  pub in_turn : (a b : ClientAnswer) → Contains (answers_of report.journal report.reads) a → Contains (answers_of report.journal report.reads) b →
       a.client ≡ b.client → a.command < b.command → a.next ≤ b.at
   -- what outlives the crash: a prefix of the history that holds everything answered
-  pub prefix : told.kept ≤ length told.journal
-  pub kept : All (λ a. a.next ≤ place + told.kept) (answers_of told.journal told.reads)
-  pub items : told.items ≡ length (queue_at lines queue life told.journal told.kept)
+  pub prefix : report.kept ≤ length report.journal
+  pub kept : All (λ a. a.next ≤ place + report.kept) (answers_of report.journal report.reads)
+  pub items : report.items ≡ length (queue_at lines queue life report.journal report.kept)
 
 -- records of lives, the first of which begins at a place with a queue, and each next one with what was kept
 abbrev pub AreFifoLivesFrom : ℕ → ℕ → Queue → List FifoLife → List FifoRecord → Type 0
 AreFifoLivesFrom lines place queue [] [] = Unit {0}
-AreFifoLivesFrom lines place queue (life ∷ lives) (told ∷ records) =
-    IsFifoLife lines place queue life told
-    × AreFifoLivesFrom lines (place + told.kept) (queue_at lines queue life told.journal told.kept) lives records
-AreFifoLivesFrom lines place queue [] (told ∷ records) = ⊥
+AreFifoLivesFrom lines place queue (life ∷ lives) (report ∷ records) =
+    IsFifoLife lines place queue life report
+    × AreFifoLivesFrom lines (place + report.kept) (queue_at lines queue life report.journal report.kept) lives records
+AreFifoLivesFrom lines place queue [] (report ∷ records) = ⊥
 AreFifoLivesFrom lines place queue (life ∷ lives) [] = ⊥
 
+-- the records are of legal lives of a queue, from place 0 and the empty queue on
 abbrev pub AreFifoLives : ℕ → List FifoLife → List FifoRecord → Type 0
 AreFifoLives lines lives records = AreFifoLivesFrom lines 0 [] lives records
 
@@ -74,13 +75,14 @@ AreFifoLives lines lives records = AreFifoLivesFrom lines 0 [] lives records
 abbrev pub kept_ops : List FifoLife → List FifoRecord → List FifoOp
 kept_ops [] records = []
 kept_ops (life ∷ lives) [] = []
-kept_ops (life ∷ lives) (told ∷ records) = ops_of (uncut life) (take told.kept told.journal) ++ kept_ops lives records
+kept_ops (life ∷ lives) (report ∷ records) = ops_of (uncut life) (take report.kept report.journal) ++ kept_ops lives records
 
--- the texts that the last life leaves
+-- the texts that the last of some lives leaves, where the first began with this queue
 abbrev pub left_from : ℕ → Queue → List FifoLife → List FifoRecord → Queue
 left_from lines queue [] records = queue
 left_from lines queue (life ∷ lives) [] = queue
-left_from lines queue (life ∷ lives) (told ∷ records) = left_from lines (queue_at lines queue life told.journal told.kept) lives records
+left_from lines queue (life ∷ lives) (report ∷ records) = left_from lines (queue_at lines queue life report.journal report.kept) lives records
 
+-- the texts that the last of some lives leaves, where the first began with the empty queue
 abbrev pub items_left : ℕ → List FifoLife → List FifoRecord → Queue
 items_left lines lives records = left_from lines [] lives records

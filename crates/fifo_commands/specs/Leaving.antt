@@ -6,8 +6,8 @@ use Rattle.fifo_commands.specs.declared.record.FifoRecord.{FifoRecord}
 
 -- a record without what only cuts have
 abbrev pub without_cuts : LifeRecord FifoReply → FifoRecord
-without_cuts told = record { clients = told.clients; from = told.from; journal = told.journal; reads = told.reads; choice = told.choice; kept = told.kept; items = told.items }
+without_cuts report = record { clients = report.clients; from = report.from; journal = report.journal; reads = report.reads; choice = report.choice; kept = report.kept; items = report.items }
 
 -- a record with what cuts have left empty: no client was stopped or ran out of free cells
 abbrev pub with_no_stops : FifoRecord → LifeRecord FifoReply
-with_no_stops told = record { clients = told.clients; from = told.from; journal = told.journal; reads = told.reads; stops = []; fulls = []; choice = told.choice; kept = told.kept; items = told.items }
+with_no_stops report = record { clients = report.clients; from = report.from; journal = report.journal; reads = report.reads; stops = []; fulls = []; choice = report.choice; kept = report.kept; items = report.items }

@@ -15,6 +15,7 @@ queue_script_reason all.Cut = reasons.Client
 queue_script_reason all.Client = reasons.Client
 queue_script_reason all.Commands = reasons.Commands
 
+-- the word with which a refusal says its reason
 abbrev pub queue_reason_text : FifoReason → List ℕ
 queue_reason_text reasons.Utf8 = codes "utf8"
 queue_reason_text reasons.Header = codes "header"

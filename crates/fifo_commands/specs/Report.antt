@@ -14,6 +14,7 @@ use Rattle.script_text.specs.Report.{Wording, journal_text, life_text, power_tex
 use Rattle.fifo_commands.specs.Grammar.{queue_command_text}
 use Rattle.fifo_commands.specs.Uncut.{uncut_script}
 
+-- a reply of the queue, as a report has it
 abbrev pub queue_reply_text : FifoReply → List ℕ
 queue_reply_text Pushed = codes "pushed"
 queue_reply_text Full = codes "full"
@@ -21,14 +22,15 @@ queue_reply_text (Item text) = codes "item " ++ text
 queue_reply_text Empty = codes "empty"
 queue_reply_text (Length number) = codes "len " ++ decimal number
 
+-- the words of a report on a queue: its commands, its replies, and what its items are called
 abbrev pub queue_wording : Wording FifoOp FifoReply
 queue_wording = record { command_text = queue_command_text; reply_text = queue_reply_text; items = codes " items " }
 
 -- the lines of one life, in which no client is stopped or runs out of free cells
 abbrev pub lines_text : ℕ → Life FifoOp → FifoRecord → List ℕ
-lines_text number life told =
-    life_text number told.clients told.from ++ flat_map (journal_text queue_wording life) told.journal ++ flat_map (read_text queue_wording life) told.reads
-    ++ power_text told.choice told.kept (length told.journal) queue_wording.items told.items
+lines_text number life report =
+    life_text number report.clients report.from ++ flat_map (journal_text queue_wording life) report.journal ++ flat_map (read_text queue_wording life) report.reads
+    ++ power_text report.choice report.kept (length report.journal) queue_wording.items report.items
 
 -- there is one record for each life, and its lines name commands of it
 abbrev pub NameFifoCommands : FifoScript → List FifoRecord → Type 0

@@ -11,7 +11,7 @@ use Rattle.life_records.specs.Records.{JournalLine}
 -- the kept entries of a client, of all these lives, by ticket
 abbrev pub kept_of : ℕ → List FifoRecord → List (JournalLine FifoReply)
 kept_of client [] = []
-kept_of client (told ∷ records) = filter (λ line. client == line.client) (take told.kept told.journal) ++ kept_of client records
+kept_of client (report ∷ records) = filter (λ line. client == line.client) (take report.kept report.journal) ++ kept_of client records
 
 -- the words of a line's reply
 abbrev pub words_of_reply : Option FifoReply → List ℕ

@@ -24,4 +24,4 @@ pub record KeepsFifoLimits (script : FifoScript) : Type 0 where
 -- in which no client was stopped or ran out of free cells.
 pub record HaveFifoLived (lines : ℕ) (lives : List FifoLife) (lived : FifoLived) : Type 0 where
   pub legal : AreFifoLives lines lives lived.records
-  pub told : AreTold (fifo_meaning lines) lines 16 (IsFifo lines) (fifo_step lines) fifo_reads (map uncut lives) (map with_no_stops lived.records) lived.trails
+  pub witness : AreTold (fifo_meaning lines) lines 16 (IsFifo lines) (fifo_step lines) fifo_reads (map uncut lives) (map with_no_stops lived.records) lived.trails

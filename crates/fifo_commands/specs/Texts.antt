@@ -15,5 +15,5 @@ use Rattle.fifo_commands.specs.Report.{queue_report_of}
 pub record IsFifoReport (script : FifoScript) (trails : List Ending) (text : List ℕ) : Type 0 where
   pub records : List FifoRecord
   pub lives : AreFifoLives script.lines script.lives records
-  pub told : AreTold (fifo_meaning script.lines) script.lines 16 (IsFifo script.lines) (fifo_step script.lines) fifo_reads (map uncut script.lives) (map with_no_stops records) trails
+  pub witness : AreTold (fifo_meaning script.lines) script.lines 16 (IsFifo script.lines) (fifo_step script.lines) fifo_reads (map uncut script.lives) (map with_no_stops records) trails
   pub report : text ≡ queue_report_of script records

@@ -14,7 +14,7 @@
 //! - Over all lives of a script, the texts of the kept pops that were given one, followed by the texts left at the end, are the texts of the
 //!   kept pushes that were taken, in order: `lives_keep_their_order`.
 //! - Whatever the threads do, the records are those of legal lives of the queue, witnessed by the execution logs of the services:
-//!   `run_fifo` (`legal` and `told` of `HaveFifoLived`). The call may wait.
+//!   `run_fifo` (`legal` and `witness` of `HaveFifoLived`). The call may wait.
 //! - The service of each life began with the number of each client's kept entries of all lives before it, and the reply to the last of
 //!   them: `lives_begin_with_results`.
 //!

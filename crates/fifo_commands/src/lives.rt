@@ -13,8 +13,8 @@ ghost use Rattle.fifo_commands.specs.declared.record.FifoRecord.{FifoRecord};
 
 /// A legal life without cuts has no stop line and no full line, and its record without these is one of a life of the queue.
 pub fn uncut_lives_are_fifo_lives()
-    ensures { (lines place : ℕ) (queue : Queue) (life : FifoLife) (told : LifeRecord FifoReply) →
-        IsLegalLife (fifo_meaning lines) place queue (uncut life) told → IsFifoLife lines place queue life (without_cuts told) }
+    ensures { (lines place : ℕ) (queue : Queue) (life : FifoLife) (report : LifeRecord FifoReply) →
+        IsLegalLife (fifo_meaning lines) place queue (uncut life) report → IsFifoLife lines place queue life (without_cuts report) }
 {}
 
 /// Over all lives, the texts of the kept pops that were given an item, followed by the items that are left at the end, are the texts of

@@ -12,9 +12,9 @@ use crate::lives::lives_keep_their_order;
 /// What was pushed comes out once and in order, over all crashes: of the lives in a report, the texts of the kept pops
 /// that were given an item, followed by the items that are left, are the texts of the kept pushes that were taken.
 pub fn reports_keep_their_order()
-    ensures { (script : FifoScript) (trails : List Ending) (text : List ℕ) (told : IsFifoReport script trails text) →
-        all_pushed script.lines [] (kept_ops script.lives told.records)
-        ≡ all_popped script.lines [] (kept_ops script.lives told.records) ++ items_left script.lines script.lives told.records }
+    ensures { (script : FifoScript) (trails : List Ending) (text : List ℕ) (is_report : IsFifoReport script trails text) →
+        all_pushed script.lines [] (kept_ops script.lives is_report.records)
+        ≡ all_popped script.lines [] (kept_ops script.lives is_report.records) ++ items_left script.lines script.lives is_report.records }
 {
     lives_keep_their_order();
 }

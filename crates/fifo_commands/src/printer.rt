@@ -27,8 +27,8 @@ pub fn fifo_report(
 {
     let mut out = Vec::new(alloc);
     let lives = script.lives.as_slice();
-    for (number, told) in records.iter().enumerate() {
-        write_record(alloc, &mut out, number as u64, &lives[number], told)?;
+    for (number, report) in records.iter().enumerate() {
+        write_record(alloc, &mut out, number as u64, &lives[number], report)?;
     }
     Ok(out)
 }
@@ -42,14 +42,14 @@ fn write_record(
     out: &mut Vec<u8>,
     number: u64,
     life: &FifoLife,
-    told: &FifoRecord,
+    report: &FifoRecord,
 ) -> Result<(), AllocError>
-    requires { NamesCommands (uncut life.now) (with_no_stops told.now) }
-    ensures { OnOk result (out.new.items ≡ out.old.items ++ record_text queue_wording number (uncut life.now) (with_no_stops told.now)) }
+    requires { NamesCommands (uncut life.now) (with_no_stops report.now) }
+    ensures { OnOk result (out.new.items ≡ out.old.items ++ record_text queue_wording number (uncut life.now) (with_no_stops report.now)) }
 {
     let lent = BorrowedLife::of(life.clients, life.choice, &[], life.commands.as_slice());
     let life = IndexedLife::of(alloc, &lent)?;
-    write_lines(out, number, &life, told)
+    write_lines(out, number, &life, report)
 }
 
 /// Writes the lines of a record.
@@ -57,22 +57,22 @@ fn write_lines(
     out: &mut Vec<u8>,
     number: u64,
     life: &IndexedLife<'_, FifoOp>,
-    told: &FifoRecord,
+    report: &FifoRecord,
 ) -> Result<(), AllocError>
-    requires { NamesCommands life.now (with_no_stops told.now) }
-    ensures { OnOk result (out.new.items ≡ out.old.items ++ lines_text number life.now told.now) }
+    requires { NamesCommands life.now (with_no_stops report.now) }
+    ensures { OnOk result (out.new.items ≡ out.old.items ++ lines_text number life.now report.now) }
 {
-    let journal = told.journal.as_slice();
-    write_life(out, number, told.clients, told.from)?;
+    let journal = report.journal.as_slice();
+    write_life(out, number, report.clients, report.from)?;
     write_journal::<QueueTexts>(out, life, journal)?;
-    write_reads::<QueueTexts>(out, life, told.reads.as_slice())?;
+    write_reads::<QueueTexts>(out, life, report.reads.as_slice())?;
     write_power(
         out,
-        told.choice,
-        told.kept,
+        report.choice,
+        report.kept,
         journal.len() as u64,
         QueueTexts::items(),
-        told.items,
+        report.items,
     )
 }
 

@@ -123,15 +123,15 @@ fn records_of(
     ensures { IfOk result (λ left. left.items ≡ map without_cuts records.items) }
 {
     let mut left = Vec::new(alloc);
-    for told in records {
-        left.push(record_of(told))?;
+    for report in records {
+        left.push(record_of(report))?;
     }
     Ok(left)
 }
 
 /// The record of a life without cuts, without its stop lines and full lines.
-fn record_of(told: LifeRecord<FifoReply>) -> FifoRecord
-    ensures { result ≡ without_cuts told }
+fn record_of(report: LifeRecord<FifoReply>) -> FifoRecord
+    ensures { result ≡ without_cuts report }
 {
     let LifeRecord {
         clients,
@@ -142,7 +142,7 @@ fn record_of(told: LifeRecord<FifoReply>) -> FifoRecord
         kept,
         items,
         ..
-    } = told;
+    } = report;
     FifoRecord {
         clients,
         from,

@@ -13,6 +13,7 @@ pub record Begun (Store : Type 0) : Type 0 where
   pub store : Store
   pub results : ℕ → ℕ × List ℕ
 
+-- what the first life begins with: place 0, the opening store, and no entry of any client
 abbrev pub nothing_begun : {Op Reply Store : Type 0} → Meaning Op Reply Store → Begun Store
 nothing_begun m = record { place = 0; store = m.opening; results = λ client. (0, replicate 144 0) }
 

@@ -43,14 +43,16 @@ pub record ClientAnswer : Type 0 where
   pub at : ℕ
   pub next : ℕ
 
--- the answers in the history, and those beside it
+-- the answer that an entry's line tells, where it has a reply: it holds at its ticket, and later answers hold behind it
 abbrev pub journal_answer : {Reply : Type 0} → JournalLine Reply → Option ClientAnswer
 journal_answer line =
     option_map (λ _. record { client = line.client; command = line.command; at = line.ticket; next = line.ticket + 1 }) line.reply
 
+-- the answer that a read's line tells: it holds at its place, and later answers hold there or behind it
 abbrev pub read_answer : {Reply : Type 0} → ReadLine Reply → ClientAnswer
 read_answer line = record { client = line.client; command = line.command; at = line.place; next = line.place }
 
+-- all answers that a record tells: those of its entries that have a reply, then those of its reads
 abbrev pub answers_of : {Reply : Type 0} → List (JournalLine Reply) → List (ReadLine Reply) → List ClientAnswer
 answers_of journal reads = filter_map journal_answer journal ++ map read_answer reads
 
@@ -62,23 +64,27 @@ count_to client command answers = count_by (λ a. (a.client == client) && (a.com
 abbrev pub IsReadBefore : {Reply : Type 0} → ReadLine Reply → ReadLine Reply → Type 0
 IsReadBefore a b = (a.client < b.client) ⊎ ((a.client ≡ b.client) × (a.command < b.command))
 
--- stop lines and full lines stand by client, one a client at the most
+-- stop lines stand by client, one a client at the most
 abbrev pub IsStopBefore : StopLine → StopLine → Type 0
 IsStopBefore a b = a.client < b.client
 
+-- full lines stand by client, one a client at the most
 abbrev pub IsFullBefore : FullLine → FullLine → Type 0
 IsFullBefore a b = a.client < b.client
 
--- whether a client was stopped in a command, or ended Full in it
+-- whether a stop line is of this client and this command
 abbrev pub is_stop_in : ℕ → ℕ → StopLine → Bool
 is_stop_in client command line = (line.client == client) && (line.command == command)
 
+-- whether a full line is of this client and this command
 abbrev pub is_full_in : ℕ → ℕ → FullLine → Bool
 is_full_in client command line = (line.client == client) && (line.command == command)
 
+-- whether the client was stopped in the command, as one of these lines says
 abbrev pub has_stop : ℕ → ℕ → List StopLine → Bool
 has_stop client command stops = list_any (is_stop_in client command) stops
 
+-- whether the client ended Full in the command, as one of these lines says
 abbrev pub has_full : ℕ → ℕ → List FullLine → Bool
 has_full client command fulls = list_any (is_full_in client command) fulls
 
@@ -226,5 +232,6 @@ pub record HasNumbers {Reply : Type 0} (report : LifeRecord Reply) : Type 0 wher
   pub stops : All (λ line. FitsWord line.client × FitsWord line.command × FitsWord line.steps) report.stops
   pub fulls : All (λ line. FitsWord line.client × FitsWord line.command × FitsWord line.note.holder × FitsWord line.note.need × FitsWord line.note.ticket) report.fulls
 
+-- the numbers of all these records are within 64 bits
 abbrev pub AreNumbers : {Reply : Type 0} → List (LifeRecord Reply) → Type 0
 AreNumbers records = All HasNumbers records

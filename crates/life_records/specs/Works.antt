@@ -66,22 +66,24 @@ pub record AreReadLines {Op Reply : Type 0} (encoding : Encoding Op Reply) (life
   pub few : length left ≤ 1
   pub stopped : All (IsStoppedRead encoding life client stop) left
 
--- Of a read the count of entries before it: those entries' commands come before the read's, and all others after it.
 module _ {Reply : Type 0} where
+  -- A read stands between its client's entries: the commands of as many entries as were answered before it come before its command, and those of
+  -- all others after it.
   abbrev pub StandsBetween : List (JournalLine Reply) → SeenRead → ReadLine Reply → Type 0
   StandsBetween entries x line =
       ((i : ℕ) (entry : JournalLine Reply) → slice_get entries i ≡ Some entry → i < x.before → entry.command < line.command)
       × ((i : ℕ) (entry : JournalLine Reply) → slice_get entries i ≡ Some entry → x.before ≤ i → line.command < entry.command)
 
--- lines by rising numbers of their commands
+-- entries' lines of one client stand by rising numbers of their commands
 abbrev pub IsEntryBefore : {Reply : Type 0} → JournalLine Reply → JournalLine Reply → Type 0
 IsEntryBefore a b = a.command < b.command
 
+-- reads' lines of one client stand by rising numbers of their commands
 abbrev pub IsSeenBefore : {Reply : Type 0} → ReadLine Reply → ReadLine Reply → Type 0
 IsSeenBefore a b = a.command < b.command
 
--- how many lines a command has
 module _ {Reply : Type 0} where
+  -- how many lines of one client are of this command, of its entries and of its reads
   abbrev pub client_lines : ℕ → List (JournalLine Reply) → List (ReadLine Reply) → ℕ
   client_lines command entries reads = count_by (λ (l : JournalLine Reply). l.command == command) entries + count_by (λ (r : ReadLine Reply). r.command == command) reads
 
@@ -148,10 +150,11 @@ pub record IsWork {Op Reply : Type 0} (encoding : Encoding Op Reply) (life : Lif
   pub reads_done : All (λ (line : ReadLine Reply). (1 ≤ line.command) × (line.command ≤ done)) reads
   pub ends : IsEnd life client done l stop full
 
--- whose lines they are
+-- whether an entry's line is of this client
 abbrev pub by_entry : {Reply : Type 0} → ℕ → JournalLine Reply → Bool
 by_entry client line = line.client == client
 
+-- whether a read's line is of this client
 abbrev pub by_read : {Reply : Type 0} → ℕ → ReadLine Reply → Bool
 by_read client line = line.client == client
 
@@ -160,10 +163,11 @@ abbrev pub first_of : {X : Type 0} → (X → ℕ) → ℕ → List X → Option
 first_of of client [] = None
 first_of of client (x ∷ xs) = if of x == client then Some x else first_of of client xs
 
--- the stop line of a client, and its full line
+-- the stop line of a client, where it has one
 abbrev pub stop_of : ℕ → List StopLine → Option StopLine
 stop_of client stops = first_of (λ (line : StopLine). line.client) client stops
 
+-- the full line of a client, where it has one
 abbrev pub full_of : ℕ → List FullLine → Option FullLine
 full_of client fulls = first_of (λ (line : FullLine). line.client) client fulls
 

@@ -1,7 +1,7 @@
 //! The bank's operations on words, and its images.
 
 use crate::holds::holds;
-use crate::objects::{Answered, opening, stepped, told};
+use crate::objects::{Answered, opening, queried, stepped};
 use bank::{Bank, Op, Reply};
 use cx_base::Object;
 use std::alloc::{AllocError, Global};
@@ -220,12 +220,12 @@ const READINGS: [(Op, Option<Reply>); 5] = [
 ];
 
 // The reply of `query` on the opening image. `None` where it gives none, or does not leave the words as they were.
-fn is_told(alloc: Global, op: Op) -> Result<Option<Reply>, AllocError> {
+fn queried_reply(alloc: Global, op: Op) -> Result<Option<Reply>, AllocError> {
     let object = bank();
     let Some(words) = opening(alloc, &object)? else {
         return Ok(None);
     };
-    match told(alloc, &object, words, &op.words())? {
+    match queried(alloc, &object, words, &op.words())? {
         Some(answered) if have(&answered.words, &[1_000, 0, 0]) => {
             Ok(Some(Reply::of(&answered.reply)))
         }
@@ -239,7 +239,7 @@ fn first_other_reading(
     rows: &[(Op, Option<Reply>)],
 ) -> Result<Option<usize>, AllocError> {
     for (i, (op, reply)) in rows.iter().enumerate() {
-        if is_told(alloc, *op)? != *reply {
+        if queried_reply(alloc, *op)? != *reply {
             return Ok(Some(i));
         }
     }

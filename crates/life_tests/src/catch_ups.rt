@@ -88,14 +88,14 @@ fn follows<R: Wait>(
         return None;
     }
     let seen = other.caught_up();
-    let (at, told) = read(rt, pool, other)?;
+    let (at, sum_read) = read(rt, pool, other)?;
     Some(
         current == place
             && before < place
             && caught == place
             && seen == place
             && at >= place
-            && told == sum,
+            && sum_read == sum,
     )
 }
 

@@ -139,33 +139,33 @@ fn script(alloc: Global) -> Result<Script<Op>, AllocError>
 }
 
 /// Whether the journal of a life has just the entries with these replies, in their order.
-fn has_answers(told: &LifeRecord<Reply>, wanted: &[Reply]) -> bool {
-    for (line, reply) in told.journal.as_slice().iter().zip(wanted) {
+fn has_answers(report: &LifeRecord<Reply>, wanted: &[Reply]) -> bool {
+    for (line, reply) in report.journal.as_slice().iter().zip(wanted) {
         if line.reply != Some(*reply) {
             return false;
         }
     }
-    told.journal.len() == wanted.len()
+    report.journal.len() == wanted.len()
 }
 
 /// Whether just one read of a life was answered, at this place with this reply.
-fn has_read(told: &LifeRecord<Reply>, place: u64, reply: Reply) -> bool {
-    match told.reads.as_slice() {
+fn has_read(report: &LifeRecord<Reply>, place: u64, reply: Reply) -> bool {
+    match report.reads.as_slice() {
         [line] => line.place == place && line.reply == reply,
         _ => false,
     }
 }
 
 /// Whether just one client of a life was stopped, in its first command before its first step, and the command is not kept.
-fn has_stop(told: &LifeRecord<Reply>) -> bool {
-    match told.stops.as_slice() {
+fn has_stop(report: &LifeRecord<Reply>) -> bool {
+    match report.stops.as_slice() {
         [line] => line.command == 1 && line.steps == 0 && !line.kept,
         _ => false,
     }
 }
 
 /// Whether the records of three lives have the replies, the reads and the stop that are wanted, and the last one the 511 counters.
-fn are_told(records: &[LifeRecord<Reply>]) -> bool {
+fn are_wanted(records: &[LifeRecord<Reply>]) -> bool {
     let [first, stopped, last] = records else {
         return false;
     };
@@ -180,17 +180,17 @@ fn are_told(records: &[LifeRecord<Reply>]) -> bool {
 }
 
 /// Whether the records of three lives of counters are as wanted.
-fn lives_are_told<R: Threads + Wait + Sync>(rt: &R, alloc: Global) -> Result<bool, AllocError> {
+fn lives_go_as_wanted<R: Threads + Wait + Sync>(rt: &R, alloc: Global) -> Result<bool, AllocError> {
     let counters = Counters::of(64, 1000);
     let script = script(alloc)?;
     let last = commands(alloc, &LAST)?;
     let lived = counter_lives(rt, alloc, &counters, &script)?;
     let lived = with_life(rt, alloc, &counters, lived, &last)?;
-    Ok(are_told(lived.records.as_slice()))
+    Ok(are_wanted(lived.records.as_slice()))
 }
 
 #[test]
 fn counters_have_lives(rt: HostRuntime) -> Result<(), Fail> {
-    holds(&rt, lives_are_told(&rt, rt.alloc())?);
+    holds(&rt, lives_go_as_wanted(&rt, rt.alloc())?);
     Ok(())
 }

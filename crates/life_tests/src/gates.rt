@@ -190,10 +190,10 @@ fn counted(journal: &[JournalLine]) -> Option<Counts> {
 }
 
 // How many entries of a client are kept.
-fn kept_of(told: &LifeRecord, client: u32) -> u64 {
+fn kept_of(life_report: &LifeRecord, client: u32) -> u64 {
     let mut count = 0u64;
-    for line in told.journal.as_slice() {
-        if line.client == client && line.ticket < told.kept {
+    for line in life_report.journal.as_slice() {
+        if line.client == client && line.ticket < life_report.kept {
             count = count.saturating_add(1);
         }
     }
@@ -201,38 +201,38 @@ fn kept_of(told: &LifeRecord, client: u32) -> u64 {
 }
 
 // Whether what is kept is a part of the history that holds each answer, and has as many documents as clients.
-fn is_kept(told: &LifeRecord) -> bool {
-    for line in told.journal.as_slice() {
-        if line.reply.is_some() && line.ticket >= told.kept {
+fn is_kept(life_report: &LifeRecord) -> bool {
+    for line in life_report.journal.as_slice() {
+        if line.reply.is_some() && line.ticket >= life_report.kept {
             return false;
         }
     }
-    let documents = u64::from(kept_of(told, 0) > 0)
-        + u64::from(kept_of(told, 1) > 0)
-        + u64::from(kept_of(told, 2) > 0);
-    told.kept <= told.journal.len() as u64 && told.items == documents
+    let documents = u64::from(kept_of(life_report, 0) > 0)
+        + u64::from(kept_of(life_report, 1) > 0)
+        + u64::from(kept_of(life_report, 2) > 0);
+    life_report.kept <= life_report.journal.len() as u64 && life_report.items == documents
 }
 
 // Whether no client was stopped and client 1 is answered, or client 1 alone was stopped, after `steps` steps, and its line says whether its entry is kept.
-fn is_stopped_or_answered(told: &LifeRecord, counts: &Counts, steps: u64) -> bool {
-    match told.stops.as_slice() {
+fn is_stopped_or_answered(life_report: &LifeRecord, counts: &Counts, steps: u64) -> bool {
+    match life_report.stops.as_slice() {
         [] => counts.answered[1] == 1,
         [line] => {
             line.client == 1
                 && line.command == 1
                 && line.steps == steps
                 && counts.answered[1] == 0
-                && line.kept == (kept_of(told, 1) == 1)
+                && line.kept == (kept_of(life_report, 1) == 1)
         }
         _ => false,
     }
 }
 
 // How many entries of a client at or above a ticket are answered, and whether one of them has that ticket.
-fn answered_from(told: &LifeRecord, client: u32, ticket: u64) -> (u64, bool) {
+fn answered_from(life_report: &LifeRecord, client: u32, ticket: u64) -> (u64, bool) {
     let mut count = 0u64;
     let mut is_there = false;
-    for line in told.journal.as_slice() {
+    for line in life_report.journal.as_slice() {
         if line.client == client && line.reply.is_some() && line.ticket >= ticket {
             count = count.saturating_add(1);
             is_there = is_there || line.ticket == ticket;
@@ -243,27 +243,27 @@ fn answered_from(told: &LifeRecord, client: u32, ticket: u64) -> (u64, bool) {
 
 // Whether client 0 or 2 ran out of free cells in its next command. Client 1, which was stopped, needs a ticket at or below the one named, and 16 of the
 // client's entries are answered from that one on, which is answered too.
-fn is_legal_full(told: &LifeRecord, counts: &Counts, line: &FullLine) -> bool {
+fn is_legal_full(life_report: &LifeRecord, counts: &Counts, line: &FullLine) -> bool {
     let client = line.client as usize;
     if client != 0 && client != 2 {
         return false;
     }
     let next = counts.answered[client].saturating_add(1);
-    let (count, is_there) = answered_from(told, line.client, line.note.ticket);
+    let (count, is_there) = answered_from(life_report, line.client, line.note.ticket);
     line.command == next
         && next <= UPDATES
         && line.note.holder == 1
-        && !told.stops.is_empty()
+        && !life_report.stops.is_empty()
         && line.note.need <= line.note.ticket
         && count >= 16
         && is_there
 }
 
 // Whether each of the lines of clients without free cells is legal, in the order of the clients.
-fn are_legal_fulls(told: &LifeRecord, counts: &Counts) -> bool {
+fn are_legal_fulls(life_report: &LifeRecord, counts: &Counts) -> bool {
     let mut least = 0u32;
-    for line in told.fulls.as_slice() {
-        if line.client < least || !is_legal_full(told, counts, line) {
+    for line in life_report.fulls.as_slice() {
+        if line.client < least || !is_legal_full(life_report, counts, line) {
             return false;
         }
         least = line.client.saturating_add(1);
@@ -272,31 +272,31 @@ fn are_legal_fulls(told: &LifeRecord, counts: &Counts) -> bool {
 }
 
 // Whether each entry of a client is answered, and it made all updates or ran out of free cells in the next.
-fn has_ended(told: &LifeRecord, counts: &Counts, client: usize) -> bool {
+fn has_ended(life_report: &LifeRecord, counts: &Counts, client: usize) -> bool {
     if client >= 3 || counts.entries[client] != counts.answered[client] {
         return false;
     }
     let mut is_full = false;
-    for line in told.fulls.as_slice() {
+    for line in life_report.fulls.as_slice() {
         is_full = is_full || line.client as usize == client;
     }
     is_full || counts.answered[client] == UPDATES
 }
 
 // Whether the record of the first life is legal, where client 1 stops after `steps` steps, and others give up only beside it.
-fn is_first(told: &LifeRecord, steps: u64) -> bool {
-    let Some(counts) = counted(told.journal.as_slice()) else {
+fn is_first(life_report: &LifeRecord, steps: u64) -> bool {
+    let Some(counts) = counted(life_report.journal.as_slice()) else {
         return false;
     };
-    told.clients == 3
-        && told.choice == 1
-        && told.from == 0
-        && told.reads.is_empty()
-        && is_kept(told)
-        && is_stopped_or_answered(told, &counts, steps)
-        && are_legal_fulls(told, &counts)
-        && has_ended(told, &counts, 0)
-        && has_ended(told, &counts, 2)
+    life_report.clients == 3
+        && life_report.choice == 1
+        && life_report.from == 0
+        && life_report.reads.is_empty()
+        && is_kept(life_report)
+        && is_stopped_or_answered(life_report, &counts, steps)
+        && are_legal_fulls(life_report, &counts)
+        && has_ended(life_report, &counts, 0)
+        && has_ended(life_report, &counts, 2)
 }
 
 // Whether a reply has the last number put under a key, or says that there is no document where none was put.
@@ -309,8 +309,8 @@ fn is_last(reply: &Reply, last: Option<u64>) -> bool {
 }
 
 // Whether the second life reads the documents that the first life left.
-fn is_second(told: &LifeRecord, first: &LifeRecord) -> bool {
-    let [a, b, c] = told.reads.as_slice() else {
+fn is_second(life_report: &LifeRecord, first: &LifeRecord) -> bool {
+    let [a, b, c] = life_report.reads.as_slice() else {
         return false;
     };
     let one = if kept_of(first, 1) == 1 {
@@ -318,17 +318,17 @@ fn is_second(told: &LifeRecord, first: &LifeRecord) -> bool {
     } else {
         None
     };
-    told.clients == 1
-        && told.choice == 0
-        && told.from == first.kept
-        && told.journal.is_empty()
-        && told.stops.is_empty()
-        && told.fulls.is_empty()
-        && told.kept == 0
-        && told.items == first.items
-        && (a.client, a.command, a.place) == (0, 1, told.from)
-        && (b.client, b.command, b.place) == (0, 2, told.from)
-        && (c.client, c.command, c.place) == (0, 3, told.from)
+    life_report.clients == 1
+        && life_report.choice == 0
+        && life_report.from == first.kept
+        && life_report.journal.is_empty()
+        && life_report.stops.is_empty()
+        && life_report.fulls.is_empty()
+        && life_report.kept == 0
+        && life_report.items == first.items
+        && (a.client, a.command, a.place) == (0, 1, life_report.from)
+        && (b.client, b.command, b.place) == (0, 2, life_report.from)
+        && (c.client, c.command, c.place) == (0, 3, life_report.from)
         && is_last(&a.reply, one)
         && is_last(&b.reply, kept_of(first, 0).checked_sub(1))
         && is_last(&c.reply, kept_of(first, 2).checked_sub(1))

@@ -1,7 +1,7 @@
 //! The highest number, the object that `object_to_copy` has for users to copy: its operations on words, and its images.
 
 use crate::holds::holds;
-use crate::objects::{Answered, opening, stepped, told};
+use crate::objects::{Answered, opening, queried, stepped};
 use cx_base::Object;
 use object_to_copy::{Highest, Op, Reply};
 use std::alloc::{AllocError, Global};
@@ -41,9 +41,9 @@ fn is_answer(answered: &Answered, reply: Reply, number: u64) -> bool {
 }
 
 // Whether `query` gives a read the case's reply and leaves the words, which have the case's number already, and gives no reply to any other operation.
-fn is_told(alloc: Global, words: Vec<u64>, case: &Case) -> Result<bool, AllocError> {
+fn answers_query(alloc: Global, words: Vec<u64>, case: &Case) -> Result<bool, AllocError> {
     let (op, reply, number) = case;
-    match told(alloc, &highest(), words, &op.words())? {
+    match queried(alloc, &highest(), words, &op.words())? {
         Some(answered) => Ok(*op == Op::Read && is_answer(&answered, *reply, *number)),
         None => Ok(*op != Op::Read),
     }
@@ -61,7 +61,7 @@ fn first_other_case(alloc: Global, cases: &[Case]) -> Result<Option<usize>, Allo
             Some(answered) if is_answer(&answered, *reply, *number) => words = answered.words,
             _ => return Ok(Some(i)),
         }
-        if !is_told(alloc, words.clone()?, case)? {
+        if !answers_query(alloc, words.clone()?, case)? {
             return Ok(Some(i));
         }
     }

@@ -72,7 +72,7 @@ pub(crate) fn stepped<O: Object>(
 
 /// The words that `query` leaves for an operation on `words`, and its reply. `None` where `words` are no image, the operation does not only read, or it
 /// halts.
-pub(crate) fn told<O: Object>(
+pub(crate) fn queried<O: Object>(
     alloc: Global,
     object: &O,
     words: Vec<u64>,

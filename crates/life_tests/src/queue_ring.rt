@@ -8,11 +8,11 @@ use std::test::Fail;
 
 /// A step: the kind of the operation, the only byte of its text, and the answer. Kinds of operations: 1 push, 2 pop, 3 peek, 4 the number of texts; 7 is
 /// none.
-type Step = (u64, u64, Told);
+type Step = (u64, u64, Answer);
 
 /// An answer: the kind of the reply, its word 1, which is the length of a text or a number, and the first word of the text. Kinds of replies: 1 pushed,
 /// 2 full, 3 a text, 4 empty, 5 the number of texts; 0 where the words were no operation.
-type Told = (u64, u64, u64);
+type Answer = (u64, u64, u64);
 
 /// A queue in 2, 3 or 5 lines. The first line is its header, and each other is a place for one text.
 fn queue_in(lines: u64) -> Fifo {
@@ -40,7 +40,7 @@ fn stepped(
     fifo: &Fifo,
     words: Vec<u64>,
     op: &[u64; 144],
-) -> Result<Option<(Vec<u64>, Told)>, AllocError> {
+) -> Result<Option<(Vec<u64>, Answer)>, AllocError> {
     if !fifo.check(alloc, &words)? {
         return Ok(None);
     }
@@ -104,11 +104,11 @@ fn first_wrong_step(
     let Some(mut words) = opened(alloc, &fifo)? else {
         return Ok(Some(0));
     };
-    for (i, (kind, byte, told)) in steps.iter().enumerate() {
+    for (i, (kind, byte, wanted)) in steps.iter().enumerate() {
         let Some((next, answer)) = stepped(alloc, &fifo, words, &asked(*kind, *byte))? else {
             return Ok(Some(i));
         };
-        if answer != *told {
+        if answer != *wanted {
             return Ok(Some(i));
         }
         words = next;

@@ -48,7 +48,7 @@ fn seen(answered: &Answered, before: u64, is_read: bool) -> Option<(u64, bool)> 
 
 /// What a client was answered in all. `None` where an answer does not have the additions before it, where a client of a caller without a limit of steps is
 /// not live or lacks an answer, and where a client of a caller with one is live or has all its answers.
-fn told(client: &Client, row: &Row) -> Option<Sum> {
+fn sum_of(client: &Client, row: &Row) -> Option<Sum> {
     let answers = client.answers();
     let is_whole = answers.len() as u64 == row.additions.wrapping_add(1);
     if client.is_live() != (row.limit == NO_LIMIT) || client.is_live() != is_whole {
@@ -73,13 +73,13 @@ fn told(client: &Client, row: &Row) -> Option<Sum> {
 }
 
 /// What all clients of a pool were answered in all, where each client's additions are in what it sees later. `None` where one client's are not.
-fn all_told(clients: &[Client], row: &Row) -> Option<Sum> {
+fn sum_of_all(clients: &[Client], row: &Row) -> Option<Sum> {
     let mut all = Sum {
         added: 0,
         queued: 0,
     };
     for client in clients {
-        let sum = told(client, row)?;
+        let sum = sum_of(client, row)?;
         all.added = all.added.wrapping_add(sum.added);
         all.queued = all.queued.wrapping_add(sum.queued);
     }
@@ -111,13 +111,13 @@ fn is_left(remains: &Remains, sum: Sum, row: &Row) -> bool {
     let Some((place, count)) = last(remains) else {
         return false;
     };
-    let untold = place.wrapping_sub(sum.added.wrapping_add(sum.queued));
+    let unanswered = place.wrapping_sub(sum.added.wrapping_add(sum.queued));
     let all = u64::from(row.clients).wrapping_mul(row.additions);
-    count == sum.added.wrapping_add(untold)
+    count == sum.added.wrapping_add(unanswered)
         && if row.limit == NO_LIMIT {
-            untold == 0 && sum.added == all
+            unanswered == 0 && sum.added == all
         } else {
-            untold <= 1 && sum.added < all
+            unanswered <= 1 && sum.added < all
         }
 }
 
@@ -129,7 +129,7 @@ fn is_right<R: Wait + Threads + Sync>(
 ) -> Result<bool, AllocError> {
     let (pool, clients) = opened(rt, alloc, row.callers, row.clients, row.limit)?;
     let clients = all_work(rt, alloc, &pool, clients, row.additions, row.threads)?;
-    let sum = all_told(&clients, row);
+    let sum = sum_of_all(&clients, row);
     match pool.close(rt, alloc, clients) {
         Ok(remains) => Ok(match sum {
             Some(sum) => is_left(&remains, sum, row),

@@ -26,21 +26,21 @@ use Rattle.typed_object.specs.Meaning.{HasMeaning}
 
 -- the record with what was kept
 abbrev pub with_kept : {Reply : Type 0} → LifeRecord Reply → ℕ → ℕ → LifeRecord Reply
-with_kept told kept items = record {
-  clients = told.clients;
-  from = told.from;
-  journal = told.journal;
-  reads = told.reads;
-  stops = told.stops;
-  fulls = told.fulls;
-  choice = told.choice;
+with_kept report kept items = record {
+  clients = report.clients;
+  from = report.from;
+  journal = report.journal;
+  reads = report.reads;
+  stops = report.stops;
+  fulls = report.fulls;
+  choice = report.choice;
   kept = kept;
   items = items;
 }
 
-module _ {O Op Reply Store : Type 0} {o : Ghosts O} {m : Meaning Op Reply Store} {object : O} {base : Base} {seats : ℕ} {life : Life Op} {service : Running O} {told : LifeRecord Reply} {remains : Remains} {crashed : Crashed}
-    (based : IsBaseOf m base (nothing_begun m)) (may : IsLifeOfPool m life) (is : IsServiceOf object (o.line_count object) seats base service) (met : HasMet m o.step o.only_reads life service told remains)
-    (ends : EndsInCrash o m object base life.choice remains crashed) (op_values : HasOpValues m life) (values : HasReplyValues m (with_kept told crashed.kept crashed.items)) where
+module _ {O Op Reply Store : Type 0} {o : Ghosts O} {m : Meaning Op Reply Store} {object : O} {base : Base} {seats : ℕ} {life : Life Op} {service : Running O} {report : LifeRecord Reply} {remains : Remains} {crashed : Crashed}
+    (based : IsBaseOf m base (nothing_begun m)) (may : IsLifeOfPool m life) (is : IsServiceOf object (o.line_count object) seats base service) (met : HasMet m o.step o.only_reads life service report remains)
+    (ends : EndsInCrash o m object base life.choice remains crashed) (op_values : HasOpValues m life) (values : HasReplyValues m (with_kept report crashed.kept crashed.items)) where
   abbrev crash : HasCrashed o object base life.choice remains crashed.image crashed.next
   crash = ends.crash
 
@@ -48,7 +48,7 @@ module _ {O Op Reply Store : Type 0} {o : Ghosts O} {m : Meaning Op Reply Store}
   inst = object_instance (o.step object) (o.only_reads object) remains.callers base
 
   abbrev flagged : LifeRecord Reply
-  flagged = with_kept told crashed.kept crashed.items
+  flagged = with_kept report crashed.kept crashed.items
 
   pub at_base : service.base.place ≡ base.place
   at_base = ap (λ (b : Base). b.place) is.from

@@ -13,10 +13,10 @@ use Rattle.client_pool.specs.declared.call.Call.{Call}
 use Rattle.client_pool.specs.declared.call.Call.TheVariants.{Entry, Look}
 use Rattle.pool_lives.specs.Ghosts.{answer_of, as_own, local_of, locals_from, seen_from}
 
-seen_same : (before : ℕ) (calls : List Call) (told : AnsweredCall) → seen_from before (calls ++ Entry told ∷ []) ≡ seen_from before calls
-seen_same before [] told = refl
-seen_same before (Entry t ∷ calls) told = seen_same (before + 1) calls told
-seen_same before (Look x ∷ calls) told = ap (λ (xs : List SeenRead). record { place = x.place; op = x.op; reply = x.reply; before = before } ∷ xs) (seen_same before calls told)
+seen_same : (before : ℕ) (calls : List Call) (answered : AnsweredCall) → seen_from before (calls ++ Entry answered ∷ []) ≡ seen_from before calls
+seen_same before [] answered = refl
+seen_same before (Entry t ∷ calls) answered = seen_same (before + 1) calls answered
+seen_same before (Look x ∷ calls) answered = ap (λ (xs : List SeenRead). record { place = x.place; op = x.op; reply = x.reply; before = before } ∷ xs) (seen_same before calls answered)
 
 abbrev seen_of : ℕ → List ℕ → List ℕ → ℕ → SeenRead
 seen_of place op reply before = record { place = place; op = op; reply = reply; before = before }
@@ -35,21 +35,21 @@ module _ (client : ℕ) (calls : List Call) where
   pub own_long : length (local_of client calls).own ≡ length (entries_called calls)
   own_long = length-map (entries_called calls) (as_own client)
 
-  pub links : (told : AnsweredCall) (op : List ℕ) (ticket : ℕ) → told.entry.ticket ≡ ticket → told.entry.entry.op ≡ op → LinksEntryAt op ticket (local_of client calls) (local_of client (calls ++ Entry told ∷ []))
-  links told op ticket at is = record {
+  pub links : (answered : AnsweredCall) (op : List ℕ) (ticket : ℕ) → answered.entry.ticket ≡ ticket → answered.entry.entry.op ≡ op → LinksEntryAt op ticket (local_of client calls) (local_of client (calls ++ Entry answered ∷ []))
+  links answered op ticket at is = record {
     number = refl;
     limit = refl;
-    entry = as_own client told;
-    own = ap (map (as_own client)) (entries_more calls told) ∙ map-append (as_own client) (entries_called calls) (told ∷ []);
+    entry = as_own client answered;
+    own = ap (map (as_own client)) (entries_more calls answered) ∙ map-append (as_own client) (entries_called calls) (answered ∷ []);
     at = at;
     by = refl;
     op_is = is;
-    reads = seen_same 0 calls told;
+    reads = seen_same 0 calls answered;
   }
 
-  pub answers : (told : AnsweredCall) (answer : Answer) → told.answer ≡ answer → (local_of client (calls ++ Entry told ∷ [])).answered ≡ with_answer answer.ticket answer.reply (local_of client calls).answered
-  answers told answer is =
-      ap (map answer_of) (entries_more calls told) ∙ map-append answer_of (entries_called calls) (told ∷ [])
+  pub answers : (answered : AnsweredCall) (answer : Answer) → answered.answer ≡ answer → (local_of client (calls ++ Entry answered ∷ [])).answered ≡ with_answer answer.ticket answer.reply (local_of client calls).answered
+  answers answered answer is =
+      ap (map answer_of) (entries_more calls answered) ∙ map-append answer_of (entries_called calls) (answered ∷ [])
       ∙ ap (λ (a : Answer). map answer_of (entries_called calls) ++ a ∷ []) is
 
   pub own_still : (read : SeenRead) → (local_of client (calls ++ Look read ∷ [])).own ≡ (local_of client calls).own

@@ -28,7 +28,7 @@ module _ {Op Reply Store : Type 0} (t : TypedSteps Op Reply Store) (instance : I
   not_bad calls b all = at_call b.call (all_at (IsCallOf instance law.history) calls b.place b.call all b.there) b.is b.bad
     where
       at_call : (call : Call) → IsCallOf instance law.history call → OpHasWords t.meaning (op_of call) b.op → AreOfNoReply t.meaning (reply_of call) → ⊥
-      at_call (Entry told) is op bad = reply_at_is t instance step_is base s law (told.answer.ticket - instance.base.place) told.entry.entry.op b.op op (subst (AreOfNoReply t.meaning) is.reply bad)
+      at_call (Entry answered) is op bad = reply_at_is t instance step_is base s law (answered.answer.ticket - instance.base.place) answered.entry.entry.op b.op op (subst (AreOfNoReply t.meaning) is.reply bad)
       at_call (Look read) is op bad = reply_at_is t instance step_is base s law (read.place - instance.base.place) read.op b.op op (subst (AreOfNoReply t.meaning) is.reply bad)
 
   pub no_bad_call : (history : List HistoryEntry) → law.history ≡ history → (calls : List Call) → IsBadCall t.meaning calls → All (IsCallOf instance history) calls → ⊥

@@ -25,26 +25,26 @@ has_made f (z ∷ xs) x y (inr h) e = kept_later (f z) (filter_map f xs) y (has_
 
 module _ {Reply : Type 0} where
   -- the answer that an entry's line tells
-  abbrev pub told_by : JournalLine Reply → ClientAnswer
-  told_by line = record { client = line.client; command = line.command; at = line.ticket; next = line.ticket + 1 }
+  abbrev pub answer_of_line : JournalLine Reply → ClientAnswer
+  answer_of_line line = record { client = line.client; command = line.command; at = line.ticket; next = line.ticket + 1 }
 
-  journal_told : (line : JournalLine Reply) (reply : Option Reply) → line.reply ≡ reply → IsSome reply → journal_answer line ≡ Some (told_by line)
-  journal_told line None is has = cc
-  journal_told line (Some reply) is has = rw is refl
+  journal_answer_is : (line : JournalLine Reply) (reply : Option Reply) → line.reply ≡ reply → IsSome reply → journal_answer line ≡ Some (answer_of_line line)
+  journal_answer_is line None is has = cc
+  journal_answer_is line (Some reply) is has = rw is refl
 
-  pub entry_answers : (entries : List (JournalLine Reply)) (reads : List (ReadLine Reply)) (line : JournalLine Reply) → Has entries line → IsSome line.reply → Contains (answers_of entries reads) (told_by line)
+  pub entry_answers : (entries : List (JournalLine Reply)) (reads : List (ReadLine Reply)) (line : JournalLine Reply) → Has entries line → IsSome line.reply → Contains (answers_of entries reads) (answer_of_line line)
   entry_answers entries reads line has some =
-      Contains-append_left (filter_map journal_answer entries) (map read_answer reads) (told_by line)
-      (has_contains (filter_map journal_answer entries) (told_by line) (has_made journal_answer entries line (told_by line) has (journal_told line line.reply refl some)))
+      Contains-append_left (filter_map journal_answer entries) (map read_answer reads) (answer_of_line line)
+      (has_contains (filter_map journal_answer entries) (answer_of_line line) (has_made journal_answer entries line (answer_of_line line) has (journal_answer_is line line.reply refl some)))
 
   -- an answer is that of an entry's line with a reply, or of a read's line
   pub line_behind : (entries : List (JournalLine Reply)) (reads : List (ReadLine Reply)) (a : ClientAnswer) → Contains (answers_of entries reads) a
-      → ((line : JournalLine Reply) × Has entries line × IsSome line.reply × (a ≡ told_by line)) ⊎ ((line : ReadLine Reply) × Has reads line × (a ≡ read_answer line))
+      → ((line : JournalLine Reply) × Has entries line × IsSome line.reply × (a ≡ answer_of_line line)) ⊎ ((line : ReadLine Reply) × Has reads line × (a ≡ read_answer line))
   line_behind entries reads a there = elim (Contains-append_cases (filter_map journal_answer entries) (map read_answer reads) a there) [
     | inl front ↦ (
         let k = Contains-item (filter_map journal_answer entries) a front in
         let l = filter_map_item journal_answer entries k.0 a k.1 in
-        let r = some_made (λ (reply : Reply). told_by l.1) l.1.reply a l.3 in
+        let r = some_made (λ (reply : Reply). answer_of_line l.1) l.1.reply a l.3 in
         inl (l.1, has_get entries l.0 l.1 l.2, subst IsSome (sym r.1) refl, sym r.2))
     | inr back ↦ (
         let k = Contains-item (map read_answer reads) a back in
@@ -86,10 +86,10 @@ module _ {Op Reply : Type 0} (encoding : Encoding Op Reply) (life : Life Op) (cl
   tickets_rise i l at =
       let es = filter (by_entry i) entries in
       let w = works.each i l at in
-      let among : (k : ℕ) (d : JournalLine Reply) → k < length es → Contains (answers_of entries reads) (told_by (get_or es k d)) = λ k d below.
+      let among : (k : ℕ) (d : JournalLine Reply) → k < length es → Contains (answers_of entries reads) (answer_of_line (get_or es k d)) = λ k d below.
       entry_answers entries reads (get_or es k d) (filter_has (by_entry i) entries (get_or es k d) (contains_has es (get_or es k d) (Contains-get_or es k d below))) (has_reply i l at k d below) in
       let mine : (k : ℕ) (d : JournalLine Reply) → k < length es → (get_or es k d).client ≡ i = λ k d below. eqb-true (get_or es k d).client i (filter_passes (by_entry i) entries k d below) in
       pairs_rise (λ (line : JournalLine Reply). line.ticket) es (λ j k d up within. (
       let first : j < length es = omega arith in
-      let rise = turns (told_by (get_or es j d)) (told_by (get_or es k d)) (among j d first) (among k d within) (mine j d first ∙ sym (mine k d within)) (w.entries_in_turn j k d up within) in
+      let rise = turns (answer_of_line (get_or es j d)) (answer_of_line (get_or es k d)) (among j d first) (among k d within) (mine j d first ∙ sym (mine k d within)) (w.entries_in_turn j k d up within) in
       omega (arith, rise)))

@@ -43,44 +43,44 @@ own_by caller ticket (e ∷ rest) =
       | inr other ↦ subst (Each (λ (x : Linked). x.entry.caller ≡ caller)) (sym (own_other caller ticket e rest other)) next
     ]
 
-module _ {Op Reply Store : Type 0} (t : TypedSteps Op Reply Store) (callers : ℕ) (base : Base) (s : State) (store : Store) (life : Life Op) (told : LifeRecord Reply) (base_law : LawfulBase t.lines t.lawful base)
-    (law : Lawful (object_instance t.step t.reads callers base) s) (is : IsPoolRecorded t.meaning (object_instance t.step t.reads callers base) s law.history store life told) where
+module _ {Op Reply Store : Type 0} (t : TypedSteps Op Reply Store) (callers : ℕ) (base : Base) (s : State) (store : Store) (life : Life Op) (report : LifeRecord Reply) (base_law : LawfulBase t.lines t.lawful base)
+    (law : Lawful (object_instance t.step t.reads callers base) s) (is : IsPoolRecorded t.meaning (object_instance t.step t.reads callers base) s law.history store life report) where
   abbrev ticket_of : JournalLine Reply → ℕ
   ticket_of line = line.ticket
 
-  pub long_journal : length told.journal ≡ length law.history
-  long_journal = length_permutation is.entries told.journal is.sorted.moved ∙ is.long
+  pub long_journal : length report.journal ≡ length law.history
+  long_journal = length_permutation is.entries report.journal is.sorted.moved ∙ is.long
 
   -- by ticket, the lines have the tickets from the place on
-  pub tickets_are : (i : ℕ) (line : JournalLine Reply) → slice_get told.journal i ≡ Some line → line.ticket ≡ base.place + i
+  pub tickets_are : (i : ℕ) (line : JournalLine Reply) → slice_get report.journal i ≡ Some line → line.ticket ≡ base.place + i
   tickets_are i line at =
-      let long : length (map ticket_of told.journal) ≡ length law.history = length_map ticket_of told.journal ∙ long_journal in
-      let all : (n : ℕ) → base.place ≤ n → n < base.place + length (map ticket_of told.journal) → Has (map ticket_of told.journal) n = λ n from below. (
+      let long : length (map ticket_of report.journal) ≡ length law.history = length_map ticket_of report.journal ∙ long_journal in
+      let all : (n : ℕ) → base.place ≤ n → n < base.place + length (map ticket_of report.journal) → Has (map ticket_of report.journal) n = λ n from below. (
       let within : n - base.place < length law.history = omega arith in
       let found = is.tickets (n - base.place) within in
       let same : found.0.ticket ≡ n = found.2 ∙ omega arith in
-      has_map ticket_of told.journal found.0 n (has_moved is.entries told.journal found.0 is.sorted.moved (contains_has is.entries found.0 found.1)) same) in
-      ranged base.place (map ticket_of told.journal) (climbs_from ticket_of told.journal is.sorted.up) all i line.ticket (slice_get-map ticket_of told.journal i ∙ ap (option_map ticket_of) at)
+      has_map ticket_of report.journal found.0 n (has_moved is.entries report.journal found.0 is.sorted.moved (contains_has is.entries found.0 found.1)) same) in
+      ranged base.place (map ticket_of report.journal) (climbs_from ticket_of report.journal is.sorted.up) all i line.ticket (slice_get-map ticket_of report.journal i ∙ ap (option_map ticket_of) at)
 
   -- by ticket, they are the clients' lines
-  pub works : AreWorks t.meaning.encoding life is.clients told.journal told.reads [] []
+  pub works : AreWorks t.meaning.encoding life is.clients report.journal report.reads [] []
   works =
-      works_in_order t.meaning.encoding life is.clients is.entries told.journal told.reads [] [] is.works is.sorted.moved (rises_from ticket_of base.place told.journal tickets_are)
-      (tickets_rise t.meaning.encoding life is.clients is.entries told.reads is.works is.in_turn)
+      works_in_order t.meaning.encoding life is.clients is.entries report.journal report.reads [] [] is.works is.sorted.moved (rises_from ticket_of base.place report.journal tickets_are)
+      (tickets_rise t.meaning.encoding life is.clients is.entries report.reads is.works is.in_turn)
 
   -- so all clients have ended: each was answered all its commands
-  pub ended : IsEnded life told
+  pub ended : IsEnded life report
   ended = record {
     tickets = λ i line at. tickets_are i line at ∙ ap (λ p. p + i) (sym is.from);
-    interleaved = interleaves t.meaning.encoding life is.clients told.journal told.reads [] [] works is.count;
+    interleaved = interleaves t.meaning.encoding life is.clients report.journal report.reads [] [] works is.count;
     reads_in_order = works.reads_in_order;
     stops_in_order = rw is.stops works.stops_in_order;
     fulls_in_order = rw is.fulls works.fulls_in_order;
     ended = λ client below.
         let l = item_below is.clients client (omega (arith, is.count)) in
-        has_ended t.meaning.encoding life is.clients told.journal told.reads [] [] works is.count client l.0 l.1 told refl refl is.stops is.fulls;
+        has_ended t.meaning.encoding life is.clients report.journal report.reads [] [] works is.count client l.0 l.1 report refl refl is.stops is.fulls;
     stops = rw is.stops (All-nil (IsLegalStop life));
-    fulls = subst (λ (fs : List FullLine). All (IsLegalFull life told) fs) (sym is.fulls) (All-nil (IsLegalFull life told));
+    fulls = subst (λ (fs : List FullLine). All (IsLegalFull life report) fs) (sym is.fulls) (All-nil (IsLegalFull life report));
   }
 
   -- the client's entry behind a line
@@ -91,12 +91,12 @@ module _ {Op Reply Store : Type 0} (t : TypedSteps Op Reply Store) (callers : �
     pub is_line : IsLineOf t.meaning.encoding life line.client local.answered None own line
     pub entry : IsEntryOfSomeCaller is.locals own
 
-  pub behind : (i : ℕ) (line : JournalLine Reply) → slice_get told.journal i ≡ Some line → Behind line
+  pub behind : (i : ℕ) (line : JournalLine Reply) → slice_get report.journal i ≡ Some line → Behind line
   behind i line at =
       let c = line.client in
-      let l = item_below is.clients c (All-item (λ (x : JournalLine Reply). x.client < length is.clients) told.journal i line works.of_entries at) in
-      let mine : Has (filter (by_entry c) told.journal) line = has_filter (by_entry c) told.journal line (has_get told.journal i line at) (eq-eqb c c refl) in
-      let x = zip_back (IsLineOf t.meaning.encoding life c l.0.answered None) l.0.own (filter (by_entry c) told.journal) line (works.each c l.0 l.1).entry_lines mine in
+      let l = item_below is.clients c (All-item (λ (x : JournalLine Reply). x.client < length is.clients) report.journal i line works.of_entries at) in
+      let mine : Has (filter (by_entry c) report.journal) line = has_filter (by_entry c) report.journal line (has_get report.journal i line at) (eq-eqb c c refl) in
+      let x = zip_back (IsLineOf t.meaning.encoding life c l.0.answered None) l.0.own (filter (by_entry c) report.journal) line (works.each c l.0 l.1).entry_lines mine in
       record {
         local = l.0;
         of_client = l.1;
@@ -126,7 +126,7 @@ module _ {Op Reply Store : Type 0} (t : TypedSteps Op Reply Store) (callers : �
       (contains_has (own_of caller base.place law.history) x (subst (λ (ys : List Linked). Contains ys x) same there))
 
   -- the entry of the history at a line is the one of the caller behind it
-  pub entry_is : (i : ℕ) (line : JournalLine Reply) (entry : Entry) (at : slice_get told.journal i ≡ Some line) → slice_get law.history i ≡ Some entry → (behind i line at).entry.entry.entry ≡ entry
+  pub entry_is : (i : ℕ) (line : JournalLine Reply) (entry : Entry) (at : slice_get report.journal i ≡ Some line) → slice_get law.history i ≡ Some entry → (behind i line at).entry.entry.entry ≡ entry
   entry_is i line entry at there =
       let b = behind i line at in
       let e = b.entry in
@@ -135,20 +135,20 @@ module _ {Op Reply Store : Type 0} (t : TypedSteps Op Reply Store) (callers : �
       let index : e.entry.ticket - base.place ≡ i = omega (arith, e.ticket, b.is_line.ticket, ticket) in
       same_Some e.entry.entry entry (sym p.1 ∙ ap (slice_get law.history) index ∙ there)
 
-  pub words_are : (i : ℕ) (line : JournalLine Reply) (entry : Entry) → slice_get told.journal i ≡ Some line → slice_get law.history i ≡ Some entry → HasCommandWords t.meaning.encoding life line.client line.command entry.op
+  pub words_are : (i : ℕ) (line : JournalLine Reply) (entry : Entry) → slice_get report.journal i ≡ Some line → slice_get law.history i ≡ Some entry → HasCommandWords t.meaning.encoding life line.client line.command entry.op
   words_are i line entry at there =
       let b = behind i line at in
       let same : b.own.entry.op ≡ entry.op = sym b.entry.op ∙ ap (λ (x : Entry). x.op) (entry_is i line entry at there) in
       subst (HasCommandWords t.meaning.encoding life line.client line.command) same b.is_line.op
 
-  pub lines_are : HaveWordsOfLines t.meaning.encoding life law.history told.journal
+  pub lines_are : HaveWordsOfLines t.meaning.encoding life law.history report.journal
   lines_are = record { long = long_journal; words = λ i line entry at there. words_are i line entry at there }
 
-  pub means : MeanStores t.meaning t.step t.reads life base law.history told.journal store
-  means = mean_stores t life is.limits is.op_values base base_law law.history told.journal store lines_are is.stands
+  pub means : MeanStores t.meaning t.step t.reads life base law.history report.journal store
+  means = mean_stores t life is.limits is.op_values base base_law law.history report.journal store lines_are is.stands
 
   -- the answer of a caller behind a line with a reply
-  pub answered : (i : ℕ) (line : JournalLine Reply) (reply : Reply) → slice_get told.journal i ≡ Some line → line.reply ≡ Some reply →
+  pub answered : (i : ℕ) (line : JournalLine Reply) (reply : Reply) → slice_get report.journal i ≡ Some line → line.reply ≡ Some reply →
       IsCallersAnswer is.locals (record { ticket = line.ticket; reply = t.meaning.encoding.reply_words reply })
   answered i line reply at has =
       let b = behind i line at in
@@ -164,14 +164,14 @@ module _ {Op Reply Store : Type 0} (t : TypedSteps Op Reply Store) (callers : �
     pub read : IsReadOfSomeCaller is.locals seen
     pub is_line : IsReadLine t.meaning.encoding life line.client read.read line
 
-  pub read_behind : (k : ℕ) (line : ReadLine Reply) → slice_get told.reads k ≡ Some line → ReadBehind line
+  pub read_behind : (k : ℕ) (line : ReadLine Reply) → slice_get report.reads k ≡ Some line → ReadBehind line
   read_behind k line at =
       let c = line.client in
-      let l = item_below is.clients c (All-item (λ (x : ReadLine Reply). x.client < length is.clients) told.reads k line works.of_reads at) in
-      let mine : Has (filter (by_read c) told.reads) line = has_filter (by_read c) told.reads line (has_get told.reads k line at) (eq-eqb c c refl) in
+      let l = item_below is.clients c (All-item (λ (x : ReadLine Reply). x.client < length is.clients) report.reads k line works.of_reads at) in
+      let mine : Has (filter (by_read c) report.reads) line = has_filter (by_read c) report.reads line (has_get report.reads k line at) (eq-eqb c c refl) in
       let reads = (works.each c l.0 l.1).read_lines in
-      let x = zip_back (IsReadLine t.meaning.encoding life c) reads.told (filter (by_read c) told.reads) line reads.lines_are mine in
-      let there : Contains l.0.seen_reads x.0 = subst (λ (xs : List SeenRead). Contains xs x.0) (sym reads.are) (Contains-append_left reads.told reads.left x.0 (has_contains reads.told x.0 x.1)) in
+      let x = zip_back (IsReadLine t.meaning.encoding life c) reads.reported (filter (by_read c) report.reads) line reads.lines_are mine in
+      let there : Contains l.0.seen_reads x.0 = subst (λ (xs : List SeenRead). Contains xs x.0) (sym reads.are) (Contains-append_left reads.reported reads.left x.0 (has_contains reads.reported x.0 x.1)) in
       let read = All-contains (IsReadOfSomeCaller is.locals) l.0.seen_reads x.0 (is.calls c l.0 l.1).reads there in
       record {
         client = l.0;

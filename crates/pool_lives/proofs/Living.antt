@@ -42,9 +42,9 @@ module _ {O Op Reply Store : Type 0} (m : Meaning Op Reply Store) (steps : O →
   whole = closed.whole (All-weaker (MayAsk r table) (λ (c : Client). is_live c.lent.kept ≡ true) (λ c may. may.live) g.clients.items gathered.each) gathered.calls gathered.has
 
   -- the record of the life
-  pub met : length g.clients.items ≡ life.clients → HaveLines m life gathered.calls g.lines.entries.items g.lines.reads.items → (told : LifeRecord Reply) → IsByTicket g.lines.entries.items told.journal → told.reads ≡ g.lines.reads.items → told.clients ≡ life.clients → told.choice ≡ life.choice
-      → told.from ≡ r.base.place → told.stops ≡ [] → told.fulls ≡ [] → HasMet m steps readings life r told remains
-  met all lines told sorted reads clients choice from stops fulls =
+  pub met : length g.clients.items ≡ life.clients → HaveLines m life gathered.calls g.lines.entries.items g.lines.reads.items → (report : LifeRecord Reply) → IsByTicket g.lines.entries.items report.journal → report.reads ≡ g.lines.reads.items → report.clients ≡ life.clients → report.choice ≡ life.choice
+      → report.from ≡ r.base.place → report.stops ≡ [] → report.fulls ≡ [] → HasMet m steps readings life r report remains
+  met all lines report sorted reads clients choice from stops fulls =
       let calls = gathered.calls in
       let es = g.lines.entries.items in
       let rs = g.lines.reads.items in

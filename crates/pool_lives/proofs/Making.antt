@@ -76,17 +76,17 @@ module _ {Op Reply Store : Type 0} (m : Meaning Op Reply Store) (life : Life Op)
     fewer = (let few = few_calls n calls es rs h in omega (arith, few, within, next))
 
     -- with an entry more
-    pub makes_entry : (told : AnsweredCall) (answer : Answer) (reply : Reply) (es' : List (JournalLine Reply)) (rs' : List (ReadLine Reply)) → told.answer ≡ answer → told.entry.ticket ≡ answer.ticket → told.entry.entry.op ≡ ws → m.encoding.reply_words reply ≡ answer.reply
-        → es' ≡ es ++ record { ticket = answer.ticket; client = client; command = number; reply = Some reply } ∷ [] → rs' ≡ rs → HasMadeCalls m life client number (calls ++ Entry told ∷ []) es' rs'
-    makes_entry told answer reply es' rs' is ticket op_is words entries reads =
+    pub makes_entry : (answered : AnsweredCall) (answer : Answer) (reply : Reply) (es' : List (JournalLine Reply)) (rs' : List (ReadLine Reply)) → answered.answer ≡ answer → answered.entry.ticket ≡ answer.ticket → answered.entry.entry.op ≡ ws → m.encoding.reply_words reply ≡ answer.reply
+        → es' ≡ es ++ record { ticket = answer.ticket; client = client; command = number; reply = Some reply } ∷ [] → rs' ≡ rs → HasMadeCalls m life client number (calls ++ Entry answered ∷ []) es' rs'
+    makes_entry answered answer reply es' rs' is ticket op_is words entries reads =
         let line : JournalLine Reply = record { ticket = answer.ticket; client = client; command = number; reply = Some reply } in
-        let at : told.answer.ticket ≡ answer.ticket = ap (λ (a : Answer). a.ticket) is in
-        let P : JournalLine Reply → Type 0 = λ l. IsCallAt (calls ++ Entry told ∷ []) l.command l.ticket (l.ticket + 1) in
+        let at : answered.answer.ticket ≡ answer.ticket = ap (λ (a : Answer). a.ticket) is in
+        let P : JournalLine Reply → Type 0 = λ l. IsCallAt (calls ++ Entry answered ∷ []) l.command l.ticket (l.ticket + 1) in
         record {
-          lists = serves_entry m life client n (local_of client calls) es rs h.lists number next op ws are named (local_of client (calls ++ Entry told ∷ [])) es' rs' answer reply (links client calls told ws answer.ticket ticket op_is) (answers client calls told answer is) words entries reads;
-          count_is = longer (Entry told);
-          entries_at = rw entries (All-push P es line (entries_still (Entry told)) (record { some = omega (arith, next); call = Entry told; there = here (Entry told); place = at; behind = ap (λ t. t + 1) at }));
-          reads_at = rw reads (reads_still (Entry told));
+          lists = serves_entry m life client n (local_of client calls) es rs h.lists number next op ws are named (local_of client (calls ++ Entry answered ∷ [])) es' rs' answer reply (links client calls answered ws answer.ticket ticket op_is) (answers client calls answered answer is) words entries reads;
+          count_is = longer (Entry answered);
+          entries_at = rw entries (All-push P es line (entries_still (Entry answered)) (record { some = omega (arith, next); call = Entry answered; there = here (Entry answered); place = at; behind = ap (λ t. t + 1) at }));
+          reads_at = rw reads (reads_still (Entry answered));
         }
 
     -- with a read more

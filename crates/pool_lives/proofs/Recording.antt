@@ -33,24 +33,24 @@ contains_at xs i x at = subst (Contains xs) (get_or_from_slice_get xs i x x at) 
 module _ (instance : Instance) (history : List HistoryEntry) (locals : List Local) (client : ℕ) where
   entries_are : (calls : List Call) → All (IsCallersCall locals) calls → All (IsEntryOfSomeCaller locals) (map (as_own client) (entries_called calls))
   entries_are [] all = All-nil (IsEntryOfSomeCaller locals)
-  entries_are (Entry told ∷ calls) all =
-      let is = All-head (IsCallersCall locals) (Entry told) calls all in
-      All-cons (IsEntryOfSomeCaller locals) (as_own client told) (map (as_own client) (entries_called calls)) (record { caller = told.caller; local = is.local; of_caller = is.of_caller; entry = told.entry; there = contains_at is.local.own is.index told.entry is.own; ticket = refl; op = refl })
-      (entries_are calls (All-tail (IsCallersCall locals) (Entry told) calls all))
+  entries_are (Entry answered ∷ calls) all =
+      let is = All-head (IsCallersCall locals) (Entry answered) calls all in
+      All-cons (IsEntryOfSomeCaller locals) (as_own client answered) (map (as_own client) (entries_called calls)) (record { caller = answered.caller; local = is.local; of_caller = is.of_caller; entry = answered.entry; there = contains_at is.local.own is.index answered.entry is.own; ticket = refl; op = refl })
+      (entries_are calls (All-tail (IsCallersCall locals) (Entry answered) calls all))
   entries_are (Look read ∷ calls) all = entries_are calls (All-tail (IsCallersCall locals) (Look read) calls all)
 
   answers_are : (calls : List Call) → All (IsCallOf instance history) calls → All (IsCallersCall locals) calls → All (IsCallersAnswer locals) (map answer_of (entries_called calls))
   answers_are [] each all = All-nil (IsCallersAnswer locals)
-  answers_are (Entry told ∷ calls) each all =
-      let is = All-head (IsCallersCall locals) (Entry told) calls all in
-      let call = All-head (IsCallOf instance history) (Entry told) calls each in
-      All-cons (IsCallersAnswer locals) (answer_of told) (map answer_of (entries_called calls)) (record { caller = told.caller; local = is.local; of_caller = is.of_caller; there = contains_at is.local.answered is.index told.answer is.answered; entry = told.entry; linked = contains_at is.local.own is.index told.entry is.own; at = call.ticket })
-      (answers_are calls (All-tail (IsCallOf instance history) (Entry told) calls each) (All-tail (IsCallersCall locals) (Entry told) calls all))
+  answers_are (Entry answered ∷ calls) each all =
+      let is = All-head (IsCallersCall locals) (Entry answered) calls all in
+      let call = All-head (IsCallOf instance history) (Entry answered) calls each in
+      All-cons (IsCallersAnswer locals) (answer_of answered) (map answer_of (entries_called calls)) (record { caller = answered.caller; local = is.local; of_caller = is.of_caller; there = contains_at is.local.answered is.index answered.answer is.answered; entry = answered.entry; linked = contains_at is.local.own is.index answered.entry is.own; at = call.ticket })
+      (answers_are calls (All-tail (IsCallOf instance history) (Entry answered) calls each) (All-tail (IsCallersCall locals) (Entry answered) calls all))
   answers_are (Look read ∷ calls) each all = answers_are calls (All-tail (IsCallOf instance history) (Look read) calls each) (All-tail (IsCallersCall locals) (Look read) calls all)
 
   reads_are : (before : ℕ) (calls : List Call) → All (IsCallersCall locals) calls → All (IsReadOfSomeCaller locals) (seen_from before calls)
   reads_are before [] all = All-nil (IsReadOfSomeCaller locals)
-  reads_are before (Entry told ∷ calls) all = reads_are (before + 1) calls (All-tail (IsCallersCall locals) (Entry told) calls all)
+  reads_are before (Entry answered ∷ calls) all = reads_are (before + 1) calls (All-tail (IsCallersCall locals) (Entry answered) calls all)
   reads_are before (Look read ∷ calls) all =
       let is = All-head (IsCallersCall locals) (Look read) calls all in
       let x : SeenRead = record { place = read.place; op = read.op; reply = read.reply; before = before } in
@@ -62,7 +62,7 @@ module _ (instance : Instance) (history : List HistoryEntry) (locals : List Loca
 
 -- the calls of a client hold in turn
 next_from : (call : Call) → answer_place_of call ≤ next_place_of call
-next_from (Entry told) = omega arith
+next_from (Entry answered) = omega arith
 next_from (Look read) = omega arith
 
 attempt_from : (floor : ℕ) (calls : List Call) (j : ℕ) (b : Call) → InTurn floor calls → slice_get calls j ≡ Some b → floor ≤ answer_place_of b
@@ -112,7 +112,7 @@ module _ {Op Reply Store : Type 0} (m : Meaning Op Reply Store) (life : Life Op)
         let ticket = place + i in
         let all = whole.all ticket (omega arith) (omega (arith, below)) in
         let c = found (answers_at ticket) calls (omega (arith, all)) in
-        let t = found (λ (told : AnsweredCall). one_at ticket told.entry.ticket) (entries_called c.1) c.3 in
+        let t = found (λ (call : AnsweredCall). one_at ticket call.entry.ticket) (entries_called c.1) c.3 in
         let same : ticket ≡ t.1.entry.ticket = one_is ticket t.1.entry.ticket t.3 in
         let k = 0 + c.0 in
         let l = local_of k c.1 in

@@ -10,18 +10,18 @@ use Rattle.client_pool.specs.Clients.{entries_called, next_place_of, answer_plac
 use Rattle.client_pool.specs.declared.call.Call.{Call}
 use Rattle.client_pool.specs.declared.call.Call.TheVariants.{Entry, Look}
 
--- an entry as one of the client's own
+-- the entry of an answered call, as if the client had entered it itself
 abbrev pub as_own : ℕ → AnsweredCall → Linked
-as_own client told = record { ticket = told.entry.ticket; entry = record told.entry.entry { caller = client } }
+as_own client answered = record { ticket = answered.entry.ticket; entry = record answered.entry.entry { caller = client } }
 
 -- the answer of an answered call
 abbrev pub answer_of : AnsweredCall → Answer
-answer_of told = told.answer
+answer_of answered = answered.answer
 
--- the reads, each behind the entries before it
+-- the reads among a client's calls, each with the number of entries that its client was answered before it
 abbrev pub seen_from : ℕ → List Call → List SeenRead
 seen_from before [] = []
-seen_from before (Entry told ∷ calls) = seen_from (before + 1) calls
+seen_from before (Entry answered ∷ calls) = seen_from (before + 1) calls
 seen_from before (Look read ∷ calls) = record { place = read.place; op = read.op; reply = read.reply; before = before } ∷ seen_from before calls
 
 -- the lists that a caller of a client's own would have after these calls

@@ -20,9 +20,9 @@ pub record IsProbe {Op Reply Store : Type 0} (m : Meaning Op Reply Store) (op : 
 
 -- The record is one of a pool life, witnessed by the execution log of what a service of this many callers leaves, which began with nothing.
 pub record HasPooled {Op Reply Store : Type 0} (m : Meaning Op Reply Store) (lines : ℕ) (is_lawful : List ℕ → Type 0) (step : List ℕ → List ℕ → List ℕ × List ℕ) (reads : List ℕ → Bool)
-    (life : Life Op) (seats : ℕ) (told : LifeRecord Reply) (remains : Remains) : Type 0 where
-  pub legal : IsPoolLife m life told
-  pub tells : IsPoolTold m lines is_lawful step reads life seats remains.trail told
+    (life : Life Op) (seats : ℕ) (report : LifeRecord Reply) (remains : Remains) : Type 0 where
+  pub legal : IsPoolLife m life report
+  pub tells : IsPoolTold m lines is_lawful step reads life seats remains.trail report
   pub callers : remains.callers ≡ seats
   pub began : IsBaseOf m remains.trail.base (nothing_begun m)
 

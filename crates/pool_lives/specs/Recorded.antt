@@ -63,24 +63,24 @@ HaveTickets {Reply} place count entries = (i : ℕ) → i < count → (line : Jo
 -- The record of a life is told by a state of the service with this history, whose base stands for a store. For each client there are the lists that a
 -- caller of its own would have; its lines are those of these lists, and what is in them is of callers of the service.
 pub record IsPoolRecorded {Op Reply Store : Type 0} (m : Meaning Op Reply Store) (instance : Instance) (s : State) (history : List Entry) (store : Store) (life : Life Op)
-    (told : LifeRecord Reply) : Type 0 where
+    (report : LifeRecord Reply) : Type 0 where
   pub locals : List Local
   pub seats : map shown s.locals ≡ locals
   pub clients : List Local
   pub count : length clients ≡ life.clients
   pub entries : List (JournalLine Reply)
-  pub works : AreWorks m.encoding life clients entries told.reads [] []
-  pub sorted : IsByTicket entries told.journal
+  pub works : AreWorks m.encoding life clients entries report.reads [] []
+  pub sorted : IsByTicket entries report.journal
   pub long : length entries ≡ length history
   pub tickets : HaveTickets instance.base.place (length history) entries
   pub calls : (client : ℕ) (l : Local) → slice_get clients client ≡ Some l → AreOfCallers locals l
-  pub in_turn : AreAnswersInTurn (answers_of entries told.reads)
-  pub clients_are : told.clients ≡ life.clients
-  pub choice : told.choice ≡ life.choice
-  pub from : told.from ≡ instance.base.place
-  pub stops : told.stops ≡ []
-  pub fulls : told.fulls ≡ []
+  pub in_turn : AreAnswersInTurn (answers_of entries report.reads)
+  pub clients_are : report.clients ≡ life.clients
+  pub choice : report.choice ≡ life.choice
+  pub from : report.from ≡ instance.base.place
+  pub stops : report.stops ≡ []
+  pub fulls : report.fulls ≡ []
   pub stands : m.stands (object_part instance.base.words) store
   pub limits : IsLifeInLimits m.is_op 64 life
   pub op_values : HasOpValues m life
-  pub values : HasReplyValues m told
+  pub values : HasReplyValues m report

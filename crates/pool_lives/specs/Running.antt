@@ -22,7 +22,7 @@ pub record IsServiceReady {O : Type 0} (object : O) (r : Running O) (seats : Lis
 
 -- What is recorded of it before the crash, when its service was closed: the lists of each client, whose lines the record has, are of callers of the
 -- service, and all that its history has.
-pub record HasMet {O Op Reply Store : Type 0} (m : Meaning Op Reply Store) (step : O → List ℕ → List ℕ → List ℕ × List ℕ) (reads : O → List ℕ → Bool) (life : Life Op) (r : Running O) (told : LifeRecord Reply) (remains : Remains) : Type 0 where
+pub record HasMet {O Op Reply Store : Type 0} (m : Meaning Op Reply Store) (step : O → List ℕ → List ℕ → List ℕ × List ℕ) (reads : O → List ℕ → Bool) (life : Life Op) (r : Running O) (report : LifeRecord Reply) (remains : Remains) : Type 0 where
   pub seats : List Seated
   pub leaves : ClosingWitness r (instance_at r step reads) seats remains
   -- by the order of all callers' steps, which are those of the closing, the history is a linearization
@@ -30,14 +30,14 @@ pub record HasMet {O Op Reply Store : Type 0} (m : Meaning Op Reply Store) (step
   pub clients : List Local
   pub count : length clients ≡ life.clients
   pub entries : List (JournalLine Reply)
-  pub works : AreWorks m.encoding life clients entries told.reads [] []
-  pub sorted : IsByTicket entries told.journal
+  pub works : AreWorks m.encoding life clients entries report.reads [] []
+  pub sorted : IsByTicket entries report.journal
   pub long : length entries ≡ length remains.trail.history
   pub tickets : HaveTickets r.base.place (length remains.trail.history) entries
   pub calls : (client : ℕ) (l : Local) → slice_get clients client ≡ Some l → AreOfCallers remains.trail.locals l
-  pub in_turn : AreAnswersInTurn (answers_of entries told.reads)
-  pub clients_are : told.clients ≡ life.clients
-  pub choice : told.choice ≡ life.choice
-  pub from : told.from ≡ r.base.place
-  pub stops : told.stops ≡ []
-  pub fulls : told.fulls ≡ []
+  pub in_turn : AreAnswersInTurn (answers_of entries report.reads)
+  pub clients_are : report.clients ≡ life.clients
+  pub choice : report.choice ≡ life.choice
+  pub from : report.from ≡ r.base.place
+  pub stops : report.stops ≡ []
+  pub fulls : report.fulls ≡ []

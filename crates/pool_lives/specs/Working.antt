@@ -44,25 +44,25 @@ pub record IsCalling {O : Type 0} (r : Running O) (table : TableId) (clients num
   pub calls : List Call
   pub has : HasCalls r client calls
 
--- one that has made none
+-- a client that has made no call, and may make one
 pub record IsUncalledIn {O : Type 0} (r : Running O) (table : TableId) (clients : ℕ) (client : Client) : Type 0 where
   pub may : MayAsk r table client
   pub closing : HasClosing r table clients client
   pub none : HasCalls r client []
 
--- one that was answered its first commands, this many of them
+-- A client is at work: its first commands, this many of them, are answered, and these are their lines.
 pub record IsAtWork {O Op Reply Store : Type 0} (m : Meaning Op Reply Store) (life : Life Op) (r : Running O) (table : TableId) (clients client number : ℕ) (now : Client) (lines : Lines Reply) : Type 0 where
   pub who : IsCalling r table clients client now
   pub made : HasMadeCalls m life client number who.calls lines.entries.items lines.reads.items
 
 -- the words of a call's operation
 abbrev pub op_of : Call → List ℕ
-op_of (Entry told) = told.entry.entry.op
+op_of (Entry answered) = answered.entry.entry.op
 op_of (Look read) = read.op
 
 -- the words with which a call was answered
 abbrev pub reply_of : Call → List ℕ
-reply_of (Entry told) = told.answer.reply
+reply_of (Entry answered) = answered.answer.reply
 reply_of (Look read) = read.reply
 
 -- a call of an operation was answered with words of no reply

@@ -20,11 +20,11 @@ use typed_object::TypedObject;
 /// is one of an entry or a read of a caller; and with a base that was kept of that state the record is one of a legal life.
 pub fn told_pools_have_lived<O: TypedObject>(object: &O, base: &Base)
     requires { LawfulBase (O.line_count object.now) (O.lawful object.now) base.now }
-    ensures { (callers : ℕ) (s : State) (store : O.Store) (life : Life O.Op) (told : LifeRecord O.Reply) (next : entry_base.Base)
+    ensures { (callers : ℕ) (s : State) (store : O.Store) (life : Life O.Op) (report : LifeRecord O.Reply) (next : entry_base.Base)
         (law : Lawful (object_instance (O.step object.now) (O.only_reads object.now) callers base.now) s) →
-        (is : IsPoolRecorded (O.meaning object.now) (object_instance (O.step object.now) (O.only_reads object.now) callers base.now) s law.history store life told) →
-        IsKeptIn (O.meaning object.now) (object_instance (O.step object.now) (O.only_reads object.now) callers base.now) s law.history told next →
-        IsLegalLife (O.meaning object.now) base.now.place store life told × AreToldIn (O.meaning object.now).encoding life base.now.place law.history is.locals told }
+        (is : IsPoolRecorded (O.meaning object.now) (object_instance (O.step object.now) (O.only_reads object.now) callers base.now) s law.history store life report) →
+        IsKeptIn (O.meaning object.now) (object_instance (O.step object.now) (O.only_reads object.now) callers base.now) s law.history report next →
+        IsLegalLife (O.meaning object.now) base.now.place store life report × AreToldIn (O.meaning object.now).encoding life base.now.place law.history is.locals report }
 {
     // the object's steps are what its operations mean
     steps_are_meant(object);

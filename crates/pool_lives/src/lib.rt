@@ -9,7 +9,7 @@
 //! - A pool life is a legal life in which nobody was stopped and nobody ended Full (`IsPoolLife`, in `specs/PoolLives.antt`); a record is witnessed by
 //!   an execution log where each entry of its history has a line, and each read is one of a caller (`IsPoolTold`).
 //! - Where the lines of clients are those of calls that callers of a closed service made, and each client's answers are in rising places, the record
-//!   is one of a legal life: `told_pools_have_lived` (`legal`, `told`).
+//!   is one of a legal life: `told_pools_have_lived`.
 //! - Whatever the threads do, the record of a run is one of a pool life, which began with nothing, and the execution log of the service witnesses it:
 //!   `run_pool` (`HasPooled`, in `specs/PoolRuns.antt`). The call may wait.
 #![tactic(auto)]

@@ -62,7 +62,7 @@ pub(crate) fn live<O: TypedObject + Sync, R: Threads + Wait + Sync, G: Gate + Sy
     let stops = Items::new(alloc);
     let fulls = Items::new(alloc);
     let choice = life.choice();
-    let told = LifeRecord {
+    let report = LifeRecord {
         clients: count,
         from: remains.first,
         journal,
@@ -73,7 +73,7 @@ pub(crate) fn live<O: TypedObject + Sync, R: Threads + Wait + Sync, G: Gate + Sy
         kept: 0,
         items: 0,
     };
-    Ok((told, remains))
+    Ok((report, remains))
 }
 
 /// The words of an operation that only reads.

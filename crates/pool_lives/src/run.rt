@@ -44,12 +44,12 @@ pub fn run_pool<O: TypedObject + Sync, R: Threads + Wait + Sync, G: Gate + Sync>
 {
     let base = first_base(alloc, object)?;
     let (service, callers) = start(alloc, object, seats, &base)?;
-    let (told, remains) = live(rt, alloc, object, service, callers, life, probe, gate)?;
+    let (report, remains) = live(rt, alloc, object, service, callers, life, probe, gate)?;
     let crashed = end_in_crash(alloc, object, &base, life.choice(), &remains)?;
     let pooled = LifeRecord {
         kept: crashed.kept,
         items: crashed.items,
-        ..told
+        ..report
     };
     // each operation of the life is a value of its type
     operations_are_values(object, life);

@@ -35,6 +35,7 @@ pub then_some : {A B E : Type 0} (f : A → B) (r : Result A E) (y : B) → then
 then_some f (Ok x) y e = (x, refl, cc)
 then_some f (Err reason) y e = absurd cc
 
+-- where an option, or else a reason, gave a value, the option holds that value
 pub or_some : {A E : Type 0} (o : Option A) (reason : E) (y : A) → ok_or o reason ≡ Ok y → o ≡ Some y
 or_some None reason y e = absurd cc
 or_some (Some x) reason y e = cc
@@ -49,34 +50,39 @@ pub second_branch : {A : Type 0} (b : Bool) (o : Option A) (y : A) → cond b No
 second_branch true o y e = absurd cc
 second_branch false o y e = (refl, e)
 
--- a value behind a test for a reason
+-- where a test, or else a reason, gave a value, the test passed, and what stands behind it gave the value
 pub ok_first : {A E : Type 0} (b : Bool) (reason : E) (r : Result A E) (y : A) → cond b r (Err reason) ≡ Ok y → (b ≡ true) × (r ≡ Ok y)
 ok_first true reason r y e = (refl, e)
 ok_first false reason r y e = absurd cc
 
+-- where a test that refuses for a reason gave a value, the test failed, and what stands behind it gave the value
 pub ok_second : {A E : Type 0} (b : Bool) (reason : E) (r : Result A E) (y : A) → cond b (Err reason) r ≡ Ok y → (b ≡ false) × (r ≡ Ok y)
 ok_second true reason r y e = absurd cc
 ok_second false reason r y e = (refl, e)
 
--- the reason behind a failed test, or a later one
+-- a reason was given: that of a test that refuses, or a later one
 pub err_second : {A E : Type 0} (b : Bool) (found : E) (r : Result A E) (reason : E) → cond b (Err found) r ≡ Err reason
     → ((b ≡ true) × (found ≡ reason)) ⊎ ((b ≡ false) × (r ≡ Err reason))
 err_second true found r reason e = inl (refl, cc)
 err_second false found r reason e = inr (refl, e)
 
+-- a reason was given: that of a test that has to pass, or a later one
 pub err_first : {A E : Type 0} (b : Bool) (found : E) (r : Result A E) (reason : E) → cond b r (Err found) ≡ Err reason
     → ((b ≡ false) × (found ≡ reason)) ⊎ ((b ≡ true) × (r ≡ Err reason))
 err_first true found r reason e = inr (refl, e)
 err_first false found r reason e = inl (refl, cc)
 
+-- a function of what was read gives no reason of its own
 pub then_err : {A B E : Type 0} (f : A → B) (r : Result A E) (reason : E) → then_ok f r ≡ Err reason → r ≡ Err reason
 then_err f (Ok x) reason e = absurd cc
 then_err f (Err found) reason e = cc
 
+-- where an option, or else a reason, gave a reason, the option holds nothing, and it is that reason
 pub or_err : {A E : Type 0} (o : Option A) (found reason : E) → ok_or o found ≡ Err reason → (o ≡ None) × (found ≡ reason)
 or_err None found reason e = (refl, cc)
 or_err (Some x) found reason e = absurd cc
 
+-- where a mapped option holds nothing, there was nothing
 pub map_none : {A B : Type 0} (f : A → B) (o : Option A) → option_map f o ≡ None → o ≡ None
 map_none f None e = refl
 map_none f (Some x) e = absurd cc

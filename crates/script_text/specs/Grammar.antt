@@ -16,6 +16,7 @@ abbrev pub Row : Type 0 → Type 0
 Row Reason = Bool × Reason
 
 module _ {Reason : Type 0} where
+  -- the reason of the first row that fits, if one does
   abbrev pub first_that_fits : List (Row Reason) → Option Reason
   first_that_fits [] = None
   first_that_fits (row ∷ rows) = if row.0 then Some row.1 else first_that_fits rows
@@ -55,9 +56,11 @@ module _ {Op : Type 0} where
   with_last change (life ∷ []) = change life ∷ []
   with_last change (life ∷ next ∷ lives) = life ∷ with_last change (next ∷ lives)
 
+  -- a life with one cut line more
   abbrev pub with_cut : Cut → Life Op → Life Op
   with_cut cut life = record life { cuts = life.cuts ++ cut ∷ [] }
 
+  -- a life with one command more
   abbrev pub with_command : Command Op → Life Op → Life Op
   with_command command life = record life { commands = life.commands ++ command ∷ [] }
 

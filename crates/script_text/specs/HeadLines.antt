@@ -34,6 +34,7 @@ within_is least most number n e =
     let bounds = and_parts (leb least number) (leb number most) kept.0 in
     (kept.1, leb-true least number bounds.0, leb-true number most bounds.1)
 
+-- a header that was read is `lines N`, with 64 to 16,384 lines
 pub header_is : (line : List ℕ) (lines : ℕ) → header_of line ≡ Some lines → (line ≡ codes "lines " ++ decimal lines) × (64 ≤ lines) × (lines ≤ 16384)
 unfolding header_of
 header_is line lines e =
@@ -77,6 +78,7 @@ start_is most text life e =
       power.1,
     )
 
+-- a life's first line that was read is `life N power C`, with numbers within the limits
 pub life_is : (most : ℕ) (line : List ℕ) (life : ℕ × ℕ) → life_of most line ≡ Some life → IsLifeLine most life line
 unfolding life_of
 life_is most line life e =
@@ -86,6 +88,7 @@ life_is most line life e =
 
 -- ---- clients and cuts
 
+-- a word that was read as a client is that client's number, and there is such a client
 pub client_is : (clients : ℕ) (word : List ℕ) (client : ℕ) → client_of clients word ≡ Some client → (word ≡ decimal client) × (client < 2 ^ 64) × (client < clients)
 unfolding client_of
 client_is clients word client e =
@@ -95,6 +98,7 @@ client_is clients word client e =
     let below : number.0 < clients = ltb-true number.0 clients kept.0 in
     (text.0 ∙ ap decimal kept.1, omega (arith, kept.1, text.1), omega (arith, kept.1, below))
 
+-- a cut line that was read is `cut N S`, of a client of the life that has no cut line before
 pub cut_is : (clients : ℕ) (cuts : List Cut) (text : List ℕ) (cut : Cut) → cut_of clients cuts text ≡ Some cut
     → IsCutLine cut (codes "cut " ++ text) × (cut.client < clients) × (has_cut cut.client cuts ≡ false)
 unfolding cut_of
@@ -116,10 +120,12 @@ cut_is clients cuts text cut e =
 
 -- ---- what is spelled so is read
 
+-- the line `lines N`, with 64 to 16,384 lines, is read as a header
 pub header_again : (lines : ℕ) → 64 ≤ lines → lines ≤ 16384 → header_of (codes "lines " ++ decimal lines) ≡ Some lines
 unfolding header_of
 header_again lines least most = rw (number_of-decimal lines (omega arith), le-leb 64 lines least, le-leb lines 16384 most) refl
 
+-- the line `life N power C`, with numbers within the limits, is read as a life's first line
 pub life_again : (most clients choice : ℕ) → most < 2 ^ 64 → 1 ≤ clients → clients ≤ most → choice < 2 ^ 64
     → life_of most (codes "life " ++ decimal clients ++ codes " power " ++ decimal choice) ≡ Some (pair clients choice)
 unfolding life_of life_behind choice_of
@@ -128,10 +134,12 @@ life_again most clients choice few_fit least few fits =
     let cut = word_cut (decimal clients) (codes "power " ++ decimal choice) (decimal_unspaced clients small) in
     rw (append_assoc (decimal clients) (codes " power ") (decimal choice), cut.0, cut.1, number_of-decimal clients small, number_of-decimal choice fits, le-leb 1 clients least, le-leb clients most few) refl
 
+-- the number of a client that there is, is read as that client
 pub client_again : (clients client : ℕ) → client < 2 ^ 64 → client < clients → client_of clients (decimal client) ≡ Some client
 unfolding client_of
 client_again clients client fits below = rw (number_of-decimal client fits, lt-ltb client clients below) refl
 
+-- the line `cut N S`, of a client of the life that has no cut line before, is read as a cut line
 pub cut_again : (clients : ℕ) (cuts : List Cut) (cut : Cut) → cut.client < 2 ^ 64 → cut.steps < 2 ^ 64 → cut.client < clients → has_cut cut.client cuts ≡ false
     → cut_of clients cuts (decimal cut.client ++ codes " " ++ decimal cut.steps) ≡ Some cut
 unfolding cut_of

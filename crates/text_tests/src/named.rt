@@ -19,22 +19,22 @@ pub(crate) fn name_commands(
     if lives.len() != records.len() {
         return Ok(false);
     }
-    for (number, told) in records.iter().enumerate() {
-        if !names_commands(alloc, &lives[number], told)? {
+    for (number, report) in records.iter().enumerate() {
+        if !names_commands(alloc, &lives[number], report)? {
             return Ok(false);
         }
     }
     Ok(true)
 }
 
-fn names_commands(alloc: Global, life: &Life, told: &LifeRecord) -> Result<bool, AllocError>
-    ensures { IfOk result (λ name. IsTrue name → NamesCommands life.now told.now) }
+fn names_commands(alloc: Global, life: &Life, report: &LifeRecord) -> Result<bool, AllocError>
+    ensures { IfOk result (λ name. IsTrue name → NamesCommands life.now report.now) }
 {
     let lent = life.lent();
     let ops = IndexedLife::of(alloc, &lent)?;
     Ok(
-        names_journal(life, &ops, told.journal.as_slice())
-            && names_reads(life, &ops, told.reads.as_slice()),
+        names_journal(life, &ops, report.journal.as_slice())
+            && names_reads(life, &ops, report.reads.as_slice()),
     )
 }
 

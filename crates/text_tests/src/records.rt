@@ -8,7 +8,7 @@ use std::alloc::{AllocError, Global};
 
 /// The reply to a command, as rows have it.
 #[derive(Clone, Copy)]
-pub(crate) enum Told {
+pub(crate) enum RowReply {
     New,
     Replaced,
     Deleted,
@@ -26,10 +26,10 @@ pub(crate) enum Told {
 }
 
 /// A line of a journal: the ticket, the client, the number of its command, and the reply, if there is one.
-pub(crate) type JournalRow = (u64, u32, u64, Option<Told>);
+pub(crate) type JournalRow = (u64, u32, u64, Option<RowReply>);
 
 /// A read of client 0: the number of its command, the place, and the reply.
-pub(crate) type ReadRow = (u64, u64, Told);
+pub(crate) type ReadRow = (u64, u64, RowReply);
 
 /// A client that was stopped: its number, the number of its command, its steps, and whether the command is kept.
 pub(crate) type StopRow = (u32, u64, u64, bool);
@@ -58,7 +58,7 @@ pub(crate) fn records_of(alloc: Global, lives: &[Lived]) -> Result<Vec<LifeRecor
 
 fn record_of(alloc: Global, life: &Lived) -> Result<LifeRecord, AllocError> {
     let ((clients, from), _, _, _, (choice, kept, items)) = *life;
-    let mut told = LifeRecord {
+    let mut report = LifeRecord {
         clients,
         from,
         journal: Items::new(alloc),
@@ -69,18 +69,18 @@ fn record_of(alloc: Global, life: &Lived) -> Result<LifeRecord, AllocError> {
         kept,
         items,
     };
-    match add_lines(alloc, &mut told, life) {
-        Ok(()) => Ok(told),
+    match add_lines(alloc, &mut report, life) {
+        Ok(()) => Ok(report),
         Err(AllocError) => Err(AllocError),
     }
 }
 
-fn add_lines(alloc: Global, told: &mut LifeRecord, life: &Lived) -> Result<(), AllocError> {
+fn add_lines(alloc: Global, report: &mut LifeRecord, life: &Lived) -> Result<(), AllocError> {
     let (_, journal, reads, (stops, fulls), _) = *life;
-    add_journal(alloc, &mut told.journal, journal)?;
-    add_reads(alloc, &mut told.reads, reads)?;
-    add_stops(&mut told.stops, stops)?;
-    add_fulls(&mut told.fulls, fulls)
+    add_journal(alloc, &mut report.journal, journal)?;
+    add_reads(alloc, &mut report.reads, reads)?;
+    add_stops(&mut report.stops, stops)?;
+    add_fulls(&mut report.fulls, fulls)
 }
 
 fn add_journal(
@@ -88,9 +88,9 @@ fn add_journal(
     journal: &mut Items<JournalLine>,
     rows: &[JournalRow],
 ) -> Result<(), AllocError> {
-    for (ticket, client, command, told) in rows {
-        let reply = match told {
-            Some(told) => Some(reply_of(alloc, *told)?),
+    for (ticket, client, command, row_reply) in rows {
+        let reply = match row_reply {
+            Some(row_reply) => Some(reply_of(alloc, *row_reply)?),
             None => None,
         };
         journal.push(JournalLine {
@@ -108,8 +108,8 @@ fn add_reads(
     reads: &mut Items<ReadLine>,
     rows: &[ReadRow],
 ) -> Result<(), AllocError> {
-    for (command, place, told) in rows {
-        let reply = reply_of(alloc, *told)?;
+    for (command, place, row_reply) in rows {
+        let reply = reply_of(alloc, *row_reply)?;
         reads.push(ReadLine {
             client: 0,
             command: *command,
@@ -147,21 +147,21 @@ fn add_fulls(fulls: &mut Items<FullLine>, rows: &[FullRow]) -> Result<(), AllocE
     Ok(())
 }
 
-fn reply_of(alloc: Global, told: Told) -> Result<Reply, AllocError> {
-    Ok(match told {
-        Told::New => Reply::New,
-        Told::Replaced => Reply::Replaced,
-        Told::Deleted => Reply::Deleted,
-        Told::Absent => Reply::Absent,
-        Told::Doc(document) => Reply::Doc(Bytes::of(alloc, document)?),
-        Told::Sum(sum) => Reply::Sum(sum),
-        Told::NotNumber => Reply::NotNumber,
-        Told::Overflow => Reply::Overflow,
-        Told::NoRoom => Reply::NoRoom,
-        Told::Key(key) => Reply::Key(Bytes::of(alloc, key)?),
-        Told::Number(count) => Reply::Number(count),
-        Told::Set(revision) => Reply::Set(revision),
-        Told::Stale(revision) => Reply::Stale(revision),
-        Told::Revision(revision) => Reply::Revision(revision),
+fn reply_of(alloc: Global, row_reply: RowReply) -> Result<Reply, AllocError> {
+    Ok(match row_reply {
+        RowReply::New => Reply::New,
+        RowReply::Replaced => Reply::Replaced,
+        RowReply::Deleted => Reply::Deleted,
+        RowReply::Absent => Reply::Absent,
+        RowReply::Doc(document) => Reply::Doc(Bytes::of(alloc, document)?),
+        RowReply::Sum(sum) => Reply::Sum(sum),
+        RowReply::NotNumber => Reply::NotNumber,
+        RowReply::Overflow => Reply::Overflow,
+        RowReply::NoRoom => Reply::NoRoom,
+        RowReply::Key(key) => Reply::Key(Bytes::of(alloc, key)?),
+        RowReply::Number(count) => Reply::Number(count),
+        RowReply::Set(revision) => Reply::Set(revision),
+        RowReply::Stale(revision) => Reply::Stale(revision),
+        RowReply::Revision(revision) => Reply::Revision(revision),
     })
 }

@@ -2,7 +2,7 @@
 
 use crate::holds::holds;
 use crate::named::name_commands;
-use crate::records::{Lived, Told, records_of};
+use crate::records::{Lived, RowReply, records_of};
 use cx_base::Items;
 use doc_text::{LifeRecord, Script, read_script, report};
 use std::alloc::{AllocError, Global};
@@ -34,8 +34,11 @@ life 1 power 0
 ",
     lives: &[(
         (1, 0),
-        &[(0, 0, 1, Some(Told::New)), (1, 0, 2, Some(Told::Replaced))],
-        &[(3, 2, Told::Doc(b"2"))],
+        &[
+            (0, 0, 1, Some(RowReply::New)),
+            (1, 0, 2, Some(RowReply::Replaced)),
+        ],
+        &[(3, 2, RowReply::Doc(b"2"))],
         (&[], &[]),
         (0, 2, 1),
     )],
@@ -55,7 +58,13 @@ lines 64
 life 1 power 0
 0 get a
 ",
-    lives: &[((1, 0), &[], &[(1, 0, Told::Absent)], (&[], &[]), (0, 0, 0))],
+    lives: &[(
+        (1, 0),
+        &[],
+        &[(1, 0, RowReply::Absent)],
+        (&[], &[]),
+        (0, 0, 0),
+    )],
     report: b"\
 life 0 clients 1 from 0
 read 0.1 at 0 get a = none
@@ -75,10 +84,10 @@ life 1 power 0
     lives: &[(
         (1, 0),
         &[
-            (0, 0, 1, Some(Told::Sum(i64::MAX))),
-            (1, 0, 2, Some(Told::Overflow)),
+            (0, 0, 1, Some(RowReply::Sum(i64::MAX))),
+            (1, 0, 2, Some(RowReply::Overflow)),
         ],
-        &[(3, 2, Told::Doc(b"9223372036854775807"))],
+        &[(3, 2, RowReply::Doc(b"9223372036854775807"))],
         (&[], &[]),
         (0, 2, 1),
     )],
@@ -105,12 +114,12 @@ life 1 power 0
     lives: &[(
         (1, 0),
         &[
-            (0, 0, 1, Some(Told::New)),
-            (1, 0, 3, Some(Told::NotNumber)),
-            (2, 0, 4, Some(Told::Deleted)),
-            (3, 0, 5, Some(Told::Absent)),
+            (0, 0, 1, Some(RowReply::New)),
+            (1, 0, 3, Some(RowReply::NotNumber)),
+            (2, 0, 4, Some(RowReply::Deleted)),
+            (3, 0, 5, Some(RowReply::Absent)),
         ],
-        &[(2, 1, Told::Doc(b"{\"a\":[],\"b\":1}"))],
+        &[(2, 1, RowReply::Doc(b"{\"a\":[],\"b\":1}"))],
         (&[], &[]),
         (0, 4, 0),
     )],
@@ -140,13 +149,16 @@ life 1 power 0
 ",
     lives: &[(
         (1, 0),
-        &[(0, 0, 1, Some(Told::New)), (1, 0, 2, Some(Told::New))],
         &[
-            (3, 2, Told::Key(b"a")),
-            (4, 2, Told::Key(b"c")),
-            (5, 2, Told::Key(b"c")),
-            (6, 2, Told::Absent),
-            (7, 2, Told::Number(2)),
+            (0, 0, 1, Some(RowReply::New)),
+            (1, 0, 2, Some(RowReply::New)),
+        ],
+        &[
+            (3, 2, RowReply::Key(b"a")),
+            (4, 2, RowReply::Key(b"c")),
+            (5, 2, RowReply::Key(b"c")),
+            (6, 2, RowReply::Absent),
+            (7, 2, RowReply::Number(2)),
         ],
         (&[], &[]),
         (0, 2, 2),
@@ -181,14 +193,14 @@ life 1 power 0
     lives: &[(
         (1, 0),
         &[
-            (0, 0, 1, Some(Told::Set(1))),
-            (1, 0, 2, Some(Told::Stale(1))),
-            (2, 0, 3, Some(Told::Replaced)),
-            (3, 0, 5, Some(Told::Set(3))),
-            (4, 0, 6, Some(Told::Deleted)),
-            (5, 0, 7, Some(Told::New)),
+            (0, 0, 1, Some(RowReply::Set(1))),
+            (1, 0, 2, Some(RowReply::Stale(1))),
+            (2, 0, 3, Some(RowReply::Replaced)),
+            (3, 0, 5, Some(RowReply::Set(3))),
+            (4, 0, 6, Some(RowReply::Deleted)),
+            (5, 0, 7, Some(RowReply::New)),
         ],
-        &[(4, 3, Told::Revision(2)), (8, 6, Told::Revision(4))],
+        &[(4, 3, RowReply::Revision(2)), (8, 6, RowReply::Revision(4))],
         (&[], &[]),
         (0, 6, 1),
     )],
@@ -216,7 +228,10 @@ life 2 power 0
 ",
     lives: &[(
         (2, 0),
-        &[(0, 1, 1, Some(Told::Sum(1))), (1, 0, 1, Some(Told::Sum(2)))],
+        &[
+            (0, 1, 1, Some(RowReply::Sum(1))),
+            (1, 0, 1, Some(RowReply::Sum(2))),
+        ],
         &[],
         (&[], &[]),
         (0, 2, 1),
@@ -247,10 +262,10 @@ life 1 power 0
         (
             (2, 0),
             &[
-                (0, 0, 1, Some(Told::New)),
-                (1, 1, 1, Some(Told::New)),
-                (2, 0, 2, Some(Told::Sum(3))),
-                (3, 1, 2, Some(Told::Sum(7))),
+                (0, 0, 1, Some(RowReply::New)),
+                (1, 1, 1, Some(RowReply::New)),
+                (2, 0, 2, Some(RowReply::Sum(3))),
+                (3, 1, 2, Some(RowReply::Sum(7))),
             ],
             &[],
             (&[], &[]),
@@ -260,9 +275,9 @@ life 1 power 0
             (1, 4),
             &[],
             &[
-                (1, 4, Told::Key(b"stock:apple")),
-                (2, 4, Told::Doc(b"7")),
-                (3, 4, Told::Number(3)),
+                (1, 4, RowReply::Key(b"stock:apple")),
+                (2, 4, RowReply::Doc(b"7")),
+                (3, 4, RowReply::Number(3)),
             ],
             (&[], &[]),
             (0, 0, 3),
@@ -294,7 +309,7 @@ life 2 power 0
 ",
     lives: &[(
         (1, 0),
-        &[(0, 0, 1, Some(Told::NoRoom)), (1, 0, 2, None)],
+        &[(0, 0, 1, Some(RowReply::NoRoom)), (1, 0, 2, None)],
         &[],
         (&[], &[]),
         (0, 2, 0),
@@ -322,8 +337,12 @@ life 2 power 0
     lives: &[
         (
             (3, 0),
-            &[(0, 0, 1, Some(Told::New)), (1, 1, 1, None), (2, 2, 1, None)],
-            &[(2, 1, Told::Doc(b"1"))],
+            &[
+                (0, 0, 1, Some(RowReply::New)),
+                (1, 1, 1, None),
+                (2, 2, 1, None),
+            ],
+            &[(2, 1, RowReply::Doc(b"1"))],
             (
                 &[(1, 1, 12, true), (2, 1, 18_446_744_073_709_551_614, false)],
                 &[],
@@ -372,7 +391,7 @@ life 3 power 1
     lives: &[(
         (3, 7),
         &[],
-        &[(1, 7, Told::Number(0))],
+        &[(1, 7, RowReply::Number(0))],
         (
             &[(1, 2, 40, false)],
             &[(0, 2, 1, 7, 8), (2, 1, 1, 7, 18_446_744_073_709_551_615)],
@@ -438,8 +457,8 @@ fn is_reported(
 /// The script, with as many clients in each life as its record tells.
 fn with_clients(script: Script, records: &[LifeRecord]) -> Script {
     let mut lives = script.lives.into_vec();
-    for (life, told) in lives.iter_mut().zip(records) {
-        life.clients = told.clients;
+    for (life, life_report) in lives.iter_mut().zip(records) {
+        life.clients = life_report.clients;
     }
     Script {
         lines: script.lines,

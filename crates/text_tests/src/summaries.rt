@@ -47,7 +47,7 @@ fn first_wrong(alloc: Global, rows: &[Row]) -> Result<Option<usize>, AllocError>
 
 /// Whether the summary of a life that left these pairs has these lines.
 fn has_lines(alloc: Global, pairs: &[Pair], lines: &[u8]) -> Result<bool, AllocError> {
-    let told = LifeRecord {
+    let report = LifeRecord {
         clients: 5,
         from: 1,
         journal: Items::new(alloc),
@@ -58,7 +58,7 @@ fn has_lines(alloc: Global, pairs: &[Pair], lines: &[u8]) -> Result<bool, AllocE
         kept: 3,
         items: 4,
     };
-    match summary(alloc, &told, pairs) {
+    match summary(alloc, &report, pairs) {
         Ok(text) => Ok(text.as_slice() == lines),
         Err(AllocError) => Err(AllocError),
     }

@@ -7,7 +7,7 @@ use Rattle.life_records.specs.declared.record.StopLine.{StopLine}
 use Rattle.cx_lives.specs.declared.progress.Work.{Work}
 use Rattle.cx_lives.specs.declared.work.WorkerOutcome.{WorkerOutcome}
 use Rattle.cx_lives.specs.Ends.{IsWorkOf, full_in, stop_in}
-use Rattle.cx_lives.specs.Works.{ServedOf, stop_told, stops_left}
+use Rattle.cx_lives.specs.Works.{ServedOf, stop_of_worker, stops_left}
 use Rattle.cx_lives.proofs.Gathering.{first_result, gathered_more}
 use Rattle.cx_lives.proofs.Leaving.{HoldersStopped, holders_more}
 use Rattle.cx_lives.proofs.gather.finish_and_gather.Goals as goal
@@ -36,8 +36,8 @@ loop-alloc-preserved g c =
     let longer : length c.in_ok-all.all.handed.items ≡ n + 1 = ap length more.handed ∙ length-append all.handed.items (work.handed ∷ []) in
     let stops_now : c.deref.result.now ≡ all.ends.stops.items = c.deref.ensures.value in
     let works_now : c.deref-in-loop-alloc.result.now ≡ left = c.deref-in-loop-alloc.ensures.value in
-    let told = c.in_ok-work.ensures.told in
-    let before : HoldersStopped (all.ends.stops.items ++ (stop_told (Ok served) ++ stops_left left)) all.ends.fulls.items =
+    let stays_stopped = c.in_ok-work.ensures.stays_stopped in
+    let before : HoldersStopped (all.ends.stops.items ++ (stop_of_worker (Ok served) ++ stops_left left)) all.ends.fulls.items =
     subst (λ (ws : List (Result (WorkerOutcome g.row.O-Reply.Denot) AllocError)). HoldersStopped (all.ends.stops.items ++ stops_left ws) all.ends.fulls.items) whole c.loop-alloc.invariant.stopped in
     let own : HoldersStopped (all.ends.stops.items ++ stops_left left) (full_in work.end) =
     subst (λ (xs : List StopLine). HoldersStopped (xs ++ stops_left left) (full_in work.end)) stops_now
@@ -46,7 +46,7 @@ loop-alloc-preserved g c =
       gathered = gathered_more (g.O.TypedObject.meaning c.args.service.now.object) life r all c.in_ok-all.all work (c.works_go_on.ensures (g.O.TypedObject.meaning c.args.service.now.object).encoding life) c.loop-alloc.invariant.gathered more work_is;
       rest = rw longer rest.1;
       count = omega (arith, longer, ap length whole, c.loop-alloc.invariant.count);
-      stopped = rw (more.stops, more.fulls) (holders_more all.ends.stops.items (stop_in work.end) (stop_told (Ok served)) (stops_left left) all.ends.fulls.items (full_in work.end) told before own);
+      stopped = rw (more.stops, more.fulls) (holders_more all.ends.stops.items (stop_in work.end) (stop_of_worker (Ok served)) (stops_left left) all.ends.fulls.items (full_in work.end) stays_stopped before own);
     }
 
 pub returns-clause-stopped : goal.returns-clause-stopped

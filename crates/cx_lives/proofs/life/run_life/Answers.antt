@@ -75,13 +75,13 @@ returns g c =
       stops_are = c.of-3.ensures;
       fulls_are = c.of-4.ensures;
     } in
-    let told = laws.told (g.O.TypedObject.meaning c.args.service.object).encoding life place history ls f.lines.entries.items journal f.lines.reads.items f.ends.stops.items f.ends.fulls.items works left.merged sorted c.in_ok-handed.ensures.stopped made is (clients ∙ c.clients-clients.ensures) (λ client l at. (gathered.each client l at).limit) in
+    let is_told = laws.is_told (g.O.TypedObject.meaning c.args.service.object).encoding life place history ls f.lines.entries.items journal f.lines.reads.items f.ends.stops.items f.ends.fulls.items works left.merged sorted c.in_ok-handed.ensures.stopped made is (clients ∙ c.clients-clients.ensures) (λ client l at. (gathered.each client l at).limit) in
     record {
       seats = seats_of handed;
       are = gathered_seats (g.O.TypedObject.meaning c.args.service.object) life c.args.service c.args.callers.items f c.requires.seats (omega (arith, c.in_ok-handed.ensures.all, c.args.callers.ok.0, c.in_ok-works.ensures.len)) gathered;
       leaves = left;
       order = c.in-Ok.ensures.remains.order;
-      is_told = subst (λ (xs : List Local). IsTold (g.O.TypedObject.meaning c.args.service.object).encoding life place history xs made) (sym left.locals) told;
+      is_told = subst (λ (xs : List Local). IsTold (g.O.TypedObject.meaning c.args.service.object).encoding life place history xs made) (sym left.locals) is_told;
       works = rw (left.locals, c.of.ensures, c.of-2.ensures, c.of-3.ensures, c.of-4.ensures) still;
       choice = c.choice-choice.ensures;
       kept = refl;

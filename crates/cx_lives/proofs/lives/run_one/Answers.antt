@@ -11,8 +11,8 @@ end_in_crash-requires-clause-closed g c = λ κs within. record {
   callers = c.args.life.now.clients;
   service = c.in_ok-service.service;
   is = c.in_ok-service.ensures.service;
-  seats = c.in_ok-told.ensures.seats;
-  leaves = c.in_ok-told.ensures.leaves;
+  seats = c.in_ok-report.ensures.seats;
+  leaves = c.in_ok-report.ensures.leaves;
 }
 
 pub reopen_image-requires-clause-readable : goal.reopen_image-requires-clause-readable
@@ -25,13 +25,13 @@ pub returns : goal.returns
 returns g c = λ begun based. (
     let object = c.args.object.now in
     let life = c.args.life.now in
-    let told = c.in_ok-told.told in
-    let remains = c.in_ok-told.remains in
+    let report = c.in_ok-report.report in
+    let remains = c.in_ok-report.remains in
     let crashed = c.in_ok-crashed.crashed in
     let m = g.O.TypedObject.meaning object in
     let is = c.in_ok-service.ensures.service in
-    let ran = subst (λ x. HasRun (g.O.TypedObject.meaning x) g.O.Object.step g.O.Object.only_reads life c.in_ok-service.service told remains) is.same c.in_ok-told.ensures in
-    c.lives_that_ran_have_lived.ensures life begun c.in_ok-service.service told c.with_kept-flagged.result remains crashed based is ran (record {
+    let ran = subst (λ x. HasRun (g.O.TypedObject.meaning x) g.O.Object.step g.O.Object.only_reads life c.in_ok-service.service report remains) is.same c.in_ok-report.ensures in
+    c.lives_that_ran_have_lived.ensures life begun c.in_ok-service.service report c.with_kept-flagged.result remains crashed based is ran (record {
       limits = c.requires.limits;
       op_values = c.operations_are_values.ensures;
       ends = subst (λ n. EndsInCrash g.O.Object m object c.args.base.now n remains crashed) c.choice.ensures c.in_ok-crashed.ensures;

@@ -68,8 +68,8 @@ returns-in-Full g c =
     let same : n + 1 - 1 ≡ n = omega arith in
     let back = c.in-Full.back in
     let note = c.in-Full.note in
-    let told : IsKeptOut (g.O.TypedObject.meaning c.args.service.now.object) life r command.client (n + 1 - 1) back note = subst (IsCommandOutcome (g.O.TypedObject.meaning c.args.service.now.object) life r command.client (n + 1)) c.in-Full.is c.in_ok-turn.ensures in
-    let kept : IsKeptOut (g.O.TypedObject.meaning c.args.service.now.object) life r me n back note = subst (λ k. IsKeptOut (g.O.TypedObject.meaning c.args.service.now.object) life r me k back note) same (subst (λ k. IsKeptOut (g.O.TypedObject.meaning c.args.service.now.object) life r k (n + 1 - 1) back note) c.if-command-client.true told) in
+    let kept_out : IsKeptOut (g.O.TypedObject.meaning c.args.service.now.object) life r command.client (n + 1 - 1) back note = subst (IsCommandOutcome (g.O.TypedObject.meaning c.args.service.now.object) life r command.client (n + 1)) c.in-Full.is c.in_ok-turn.ensures in
+    let kept : IsKeptOut (g.O.TypedObject.meaning c.args.service.now.object) life r me n back note = subst (λ k. IsKeptOut (g.O.TypedObject.meaning c.args.service.now.object) life r me k back note) same (subst (λ k. IsKeptOut (g.O.TypedObject.meaning c.args.service.now.object) life r k (n + 1 - 1) back note) c.if-command-client.true kept_out) in
     let left : Left g.row.O-Reply.Denot = record { progress = back; at = c.loop-at.at; number = n; begun = true } in
     let line : FullLine = record { client = me; command = n + 1; note = note } in
     subst (λ k. IsFullLeft (g.O.TypedObject.meaning c.args.service.now.object) life r k left line) c.number-client.ensures (record {

@@ -16,8 +16,8 @@ returns-in-Ok-Some-clause-unread g c none =
 pub returns-in-Ok-None-clause-answer : goal.returns-in-Ok-None-clause-answer
 returns-in-Ok-None-clause-answer g c =
     let words : List (List ℕ) = map string_bytes c.args.words.now in
-    let told = g.S.Source.left c.args.source.now in
-    answers_written words told usage_text c.without_lives-ended.result c.write_answer.result (g.K.Sink.written c.args.sink.now) (g.K.Sink.written c.write_answer.new.sink)
+    let given = g.S.Source.left c.args.source.now in
+    answers_written words given usage_text c.without_lives-ended.result c.write_answer.result (g.K.Sink.written c.args.sink.now) (g.K.Sink.written c.write_answer.new.sink)
     (g.K.Sink.faults c.args.sink.now) (g.K.Sink.faults c.write_answer.new.sink)
-    (owed_by words told Usage [] usage_text c.without_lives-ended.result c.without_lives-ended.ensures
-    (owed_short None words told [] Usage [] usage_text (rw c.in-Ok-None.field-0-is at c.in-Ok-None.ensures) refl (omega arith) refl refl)) c.write_answer.ensures.wrote
+    (owed_by words given Usage [] usage_text c.without_lives-ended.result c.without_lives-ended.ensures
+    (owed_short None words given [] Usage [] usage_text (rw c.in-Ok-None.field-0-is at c.in-Ok-None.ensures) refl (omega arith) refl refl)) c.write_answer.ensures.wrote

@@ -21,12 +21,12 @@ returns-in-Ok-Failed-clause-cause g c =
 
 pub returns-in-Ok-TooLong-clause-answer : goal.returns-in-Ok-TooLong-clause-answer
 returns-in-Ok-TooLong-clause-answer g c words asks =
-    let told = g.S.Source.left c.args.source.now in
+    let given = g.S.Source.left c.args.source.now in
     let shows = rw c.in-Ok-TooLong.field-0-is at c.in-Ok-TooLong.ensures.input in
-    answers_written words told too_long_text c.without_lives-ended.result c.write_answer.result (g.K.Sink.written c.args.sink.now) (g.K.Sink.written c.write_answer.new.sink)
+    answers_written words given too_long_text c.without_lives-ended.result c.write_answer.result (g.K.Sink.written c.args.sink.now) (g.K.Sink.written c.write_answer.new.sink)
     (g.K.Sink.faults c.args.sink.now) (g.K.Sink.faults c.write_answer.new.sink)
-    (owed_by words told TooLong [] too_long_text c.without_lives-ended.result c.without_lives-ended.ensures
-    (owed_long (Some c.args.asked.now) words told shows.0 asks shows.2 shows.1)) c.write_answer.ensures.wrote
+    (owed_by words given TooLong [] too_long_text c.without_lives-ended.result c.without_lives-ended.ensures
+    (owed_long (Some c.args.asked.now) words given shows.0 asks shows.2 shows.1)) c.write_answer.ensures.wrote
 
 pub returns-in-Ok-TooLong-clause-cause : goal.returns-in-Ok-TooLong-clause-cause
 returns-in-Ok-TooLong-clause-cause g c =
@@ -37,8 +37,8 @@ returns-in-Ok-TooLong-clause-cause g c =
 pub returns-in-Ok-Whole-clause-answer : goal.returns-in-Ok-Whole-clause-answer
 returns-in-Ok-Whole-clause-answer g c words asks =
     let shows = rw c.in-Ok-Whole.field-0-is at c.in-Ok-Whole.ensures.input in
-    let told = g.S.Source.left c.args.source.now in
-    c.run_input.ensures.answer words told asks (subst (λ (bytes : List ℕ). IsInput (command c.args.asked.now).reads told bytes) (sym c.deref.ensures.value) shows.1)
+    let given = g.S.Source.left c.args.source.now in
+    c.run_input.ensures.answer words given asks (subst (λ (bytes : List ℕ). IsInput (command c.args.asked.now).reads given bytes) (sym c.deref.ensures.value) shows.1)
 
 pub returns-in-Ok-Whole-clause-cause : goal.returns-in-Ok-Whole-clause-cause
 returns-in-Ok-Whole-clause-cause g c = c.run_input.ensures.cause (g.S.Source.faults c.args.source.now) (g.S.Source.faults c.input_of.new.source)

@@ -20,7 +20,7 @@ returns g c =
       record_of = one.0;
       are = record {
         lives = subst (λ (records : List (LifeRecord Reply)). AreLivesFrom (document_meaning 1024) 0 empty_store (life ∷ []) records) one.1 lived.legal;
-        told = subst (λ (records : List (LifeRecord Reply)). AreTold (document_meaning 1024) 1024 2 (IsImageOfStore 1024) (store_step 1024) reads_in (life ∷ []) records c.in_ok-lived.lived.trails) one.1 lived.told;
+        witness = subst (λ (records : List (LifeRecord Reply)). AreTold (document_meaning 1024) 1024 2 (IsImageOfStore 1024) (store_step 1024) reads_in (life ∷ []) records c.in_ok-lived.lived.trails) one.1 lived.witness;
       };
       summary = c.in_ok-text.ensures one.0 one.1;
     }

@@ -18,14 +18,14 @@ use Rattle.doc_commands.proofs.Loading.{base_begins}
 use Rattle.doc_commands.proofs.loads.text_of_life.Goals as goal
 
 pub returns : goal.returns
-returns c told are =
+returns c report are =
     let life : Life Op = generated_life c.args.from c.args.clients c.args.ops in
     let begun : Begun RevisedStore = begun_by (document_meaning 1024) (nothing_begun (document_meaning 1024)) (life ∷ []) c.args.lived.now.records in
     let begins : BeginsLife (document_meaning 1024) 1024 (IsImageOfStore 1024) begun c.in-Some.base =
     base_begins 1024 begun (life ∷ []) c.args.lived.now.image c.in-Some.base (subst (λ (base : Option Base). HaveEnded (document_meaning 1024) 1024 2 (IsImageOfStore 1024) begun (life ∷ []) c.args.lived.now.image base) c.in-Some.is c.requires.ends) in
-    let stands : StandsForRevised (object_part c.in-Some.base.words) (store_left 1024 life told) =
+    let stands : StandsForRevised (object_part c.in-Some.base.words) (store_left 1024 life report) =
     subst (λ (records : List (LifeRecord Reply)). StandsForRevised (object_part c.in-Some.base.words) (begun_by (document_meaning 1024) (nothing_begun (document_meaning 1024)) (life ∷ []) records).store) are begins.is.stands in
-    let pairs : c.deref.result.now ≡ (store_left 1024 life told).triples = c.deref.ensures.value ∙ c.in_ok-pairs.ensures (store_left 1024 life told) stands in
-    let same : c.told-item.result ≡ told = c.told-item.is ∙ ap (λ (records : List (LifeRecord Reply)). get_or records 0 c.told-item.result) (c.as_slice.ensures ∙ are) in
-    IfOk-weaker c.summary.result (λ text. text.items ≡ summary_text c.told-item.result c.deref.result.now) (λ text. text.items ≡ summary_text told (store_left 1024 life told).triples)
+    let pairs : c.deref.result.now ≡ (store_left 1024 life report).triples = c.deref.ensures.value ∙ c.in_ok-pairs.ensures (store_left 1024 life report) stands in
+    let same : c.report-item.result ≡ report = c.report-item.is ∙ ap (λ (records : List (LifeRecord Reply)). get_or records 0 c.report-item.result) (c.as_slice.ensures ∙ are) in
+    IfOk-weaker c.summary.result (λ text. text.items ≡ summary_text c.report-item.result c.deref.result.now) (λ text. text.items ≡ summary_text report (store_left 1024 life report).triples)
     (λ text is. is ∙ ap₂ summary_text same pairs) c.summary.ensures

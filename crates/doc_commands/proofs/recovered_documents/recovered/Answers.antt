@@ -13,14 +13,14 @@ recovered_here : (image : Image) (base : Base) (lines : ℕ) → lines ≡ image
     → IsRecovered 2 (IsImageOfStore image.lines) (first_format image.lines) image base
 recovered_here image base lines same is = subst (λ (n : ℕ). IsRecovered 2 (IsImageOfStore n) (first_format n) image base) same is
 
-pub told_by-requires-clause-words : goal.told_by-requires-clause-words
-told_by-requires-clause-words c =
+pub found_in-requires-clause-words : goal.found_in-requires-clause-words
+found_in-requires-clause-words c =
     let image = c.args.image.now in
     let is = recovered_here image c.in_ok-base.base c.of.result.lines c.of.ensures c.in_ok-base.ensures.recovers in
     subst (λ (b : Base). 1168 ≤ length b.words) (sym is.is) (recovered_long (first_format image.lines) (region_of image) (region_long image))
 
-pub told_by-requires-clause-lawful : goal.told_by-requires-clause-lawful
-told_by-requires-clause-lawful c =
+pub found_in-requires-clause-lawful : goal.found_in-requires-clause-lawful
+found_in-requires-clause-lawful c =
     let image = c.args.image.now in
     let is = recovered_here image c.in_ok-base.base c.of.result.lines c.of.ensures c.in_ok-base.ensures.recovers in
     (image.lines, part_is_image image c.in_ok-base.base (region_long image) is)
@@ -29,4 +29,4 @@ pub returns : goal.returns
 returns c =
     let image = c.args.image.now in
     let is = recovered_here image c.in_ok-base.base c.of.result.lines c.of.ensures c.in_ok-base.ensures.recovers in
-    answered image c.in_ok-base.base c.told_by.result (region_long image) is c.told_by.ensures.told c.told_by.ensures.replies
+    answered image c.in_ok-base.base c.found_in.result (region_long image) is c.found_in.ensures.found c.found_in.ensures.replies

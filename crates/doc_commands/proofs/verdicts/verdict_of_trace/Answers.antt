@@ -21,4 +21,4 @@ returns c =
       safe = subst (λ (n : ℕ). OnYes verdict (IsSafeTrace n (IsImageOfStore n) (documents_from trace.callers n base) (opening_state trace.callers base) trace.steps)) c.of-store.ensures c.in_ok-verdict.ensures.safe;
     } in
     IfOk-weaker c.text_of.result (λ text. text.items ≡ verdict_text verdict) (λ text. IsTraceVerdict trace text.items)
-    (λ text told. record { verdict = verdict; is = subst (λ (b : Base). IsVerdictFrom b trace verdict) fresh here; told = told }) c.text_of.ensures
+    (λ text text_is. record { verdict = verdict; is = subst (λ (b : Base). IsVerdictFrom b trace verdict) fresh here; text_is = text_is }) c.text_of.ensures

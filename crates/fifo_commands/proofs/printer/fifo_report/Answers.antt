@@ -3,7 +3,7 @@ use Rattle.fifo_commands.specs.FifoLives.{uncut}
 use Rattle.fifo_commands.specs.Leaving.{with_no_stops}
 use Rattle.script_text.specs.Report.{records_text}
 use Rattle.fifo_commands.specs.Report.{queue_wording}
-use Rattle.fifo_commands.proofs.Records.{AreNamed, all_told, named_at, one_more, same_length}
+use Rattle.fifo_commands.proofs.Records.{AreNamed, all_texts, named_at, one_more, same_length}
 use Rattle.fifo_commands.proofs.printer.fifo_report.Goals as goal
 
 pub bounds-lives-number : goal.bounds-lives-number
@@ -31,4 +31,4 @@ pub returns : goal.returns
 returns c =
     c.loop-number.invariant
     ∙ ap (λ lives. records_text queue_wording 0 (take c.loop-number.number (map uncut lives)) (take c.loop-number.number (map with_no_stops c.args.records.now))) c.as_slice-lives.ensures
-    ∙ all_told c.args.script.now.lives c.args.records.now c.loop-number.number c.requires c.loop-number-test.false
+    ∙ all_texts c.args.script.now.lives c.args.records.now c.loop-number.number c.requires c.loop-number-test.false

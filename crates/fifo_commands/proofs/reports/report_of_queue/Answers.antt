@@ -18,6 +18,6 @@ pub returns : goal.returns
 returns g c = record {
   records = c.in_ok-lived.lived.records;
   lives = c.in_ok-lived.ensures.legal;
-  told = c.in_ok-lived.ensures.told;
+  witness = c.in_ok-lived.ensures.witness;
   report = c.in_ok-text.ensures ∙ ap (λ (records : List FifoRecord). queue_report_of c.args.script.now records) c.as_slice.ensures;
 }

@@ -86,7 +86,7 @@ returns g c =
     } in
     let all : length f.clients.items ≡ life.clients =
     omega (arith, c.in_ok-clients.ensures.all, c.in_ok-works.ensures.len, c.in-Ok.clients.ok.0, c.in-Ok.ensures.opened.2.count_is, c.clients-count.ensures) in
-    let told : LifeRecord g.row.O-Reply.Denot = record {
+    let report : LifeRecord g.row.O-Reply.Denot = record {
       clients = c.clients-count.result;
       from = c.in-Ok-close.remains.first;
       journal = c.of-journal.result;
@@ -97,6 +97,6 @@ returns g c =
       kept = 0;
       items = 0;
     } in
-    subst (λ x. HasMet m g.O.Object.step g.O.Object.only_reads life x told c.in-Ok-close.remains) same
-    (met m g.O.Object.step g.O.Object.only_reads life r c.in-Ok.pool.line.table.shared.table_id f gathered c.in-Ok-close.remains closed all lines told (subst (IsByTicket es) (sym c.of-journal.ensures) sorted) c.of-reads.ensures c.clients-count.ensures c.choice-choice.ensures
+    subst (λ x. HasMet m g.O.Object.step g.O.Object.only_reads life x report c.in-Ok-close.remains) same
+    (met m g.O.Object.step g.O.Object.only_reads life r c.in-Ok.pool.line.table.shared.table_id f gathered c.in-Ok-close.remains closed all lines report (subst (IsByTicket es) (sym c.of-journal.ensures) sorted) c.of-reads.ensures c.clients-count.ensures c.choice-choice.ensures
     closed.leaves.first c.new-stops.ensures c.new-fulls.ensures)

@@ -11,18 +11,18 @@ end_in_crash-requires-clause-closed g c = λ κs within. record {
   callers = c.args.seats;
   service = c.in_ok-service.service;
   is = c.in_ok-service.ensures.service;
-  seats = c.in_ok-told.ensures.seats;
-  leaves = c.in_ok-told.ensures.leaves;
+  seats = c.in_ok-report.ensures.seats;
+  leaves = c.in_ok-report.ensures.leaves;
 }
 
 pub returns : goal.returns
 returns g c =
     let m = g.O.TypedObject.meaning c.args.object.now in
-    let remains = c.in_ok-told.remains in
+    let remains = c.in_ok-report.remains in
     let crashed = c.in_ok-crashed.crashed in
     let based = c.in_ok-base.ensures.begins.is in
     let is = c.in_ok-service.ensures.service in
-    let met = c.in_ok-told.ensures in
+    let met = c.in_ok-report.ensures in
     let ends = subst (λ n. EndsInCrash g.O.Object m c.args.object.now c.in_ok-base.base n remains crashed) c.choice.ensures c.in_ok-crashed.ensures in
     let op_values = c.operations_are_values.ensures in
     let values = c.replies_are_values.ensures in

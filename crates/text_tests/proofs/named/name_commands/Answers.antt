@@ -12,20 +12,20 @@ NameCommands-from_places : (lives : List (Life Op)) (records : List (LifeRecord 
     → ((n : ℕ) (d : Life Op) (e : LifeRecord Reply) → n < length records → NamesCommands (get_or lives n d) (get_or records n e))
     → NameCommands lives records
 NameCommands-from_places [] [] same named = tt
-NameCommands-from_places [] (told ∷ records) same named = absurd (omega arith)
+NameCommands-from_places [] (report ∷ records) same named = absurd (omega arith)
 NameCommands-from_places (life ∷ lives) [] same named = absurd (omega arith)
-NameCommands-from_places (life ∷ lives) (told ∷ records) same named = (
-  named 0 life told (omega arith),
+NameCommands-from_places (life ∷ lives) (report ∷ records) same named = (
+  named 0 life report (omega arith),
   NameCommands-from_places lives records (omega arith) (λ n d e below. named (suc n) d e (omega arith)),
 )
 
 -- one place more
-at_places_more : (lives : List (Life Op)) (records : List (LifeRecord Reply)) (n : ℕ) (life : Life Op) (told : LifeRecord Reply)
-    → n < length lives → n < length records → life ≡ get_or lives n life → told ≡ get_or records n told
+at_places_more : (lives : List (Life Op)) (records : List (LifeRecord Reply)) (n : ℕ) (life : Life Op) (report : LifeRecord Reply)
+    → n < length lives → n < length records → life ≡ get_or lives n life → report ≡ get_or records n report
     → ((m : ℕ) (d : Life Op) (e : LifeRecord Reply) → m < n → NamesCommands (get_or lives m d) (get_or records m e))
-    → NamesCommands life told
+    → NamesCommands life report
     → (m : ℕ) (d : Life Op) (e : LifeRecord Reply) → m < n + 1 → NamesCommands (get_or lives m d) (get_or records m e)
-at_places_more lives records n life told lives_have records_have life_is told_is before here m d e below =
+at_places_more lives records n life report lives_have records_have life_is report_is before here m d e below =
     let P : ℕ → Type 0 = λ k. NamesCommands (get_or lives k d) (get_or records k e) in
     ⊎_elim
     (λ less. before m d e less)
@@ -33,7 +33,7 @@ at_places_more lives records n life told lives_have records_have life_is told_is
     let same : n ≡ m = omega (arith, least) in
     subst P same
     (subst (λ (l : Life Op). NamesCommands l (get_or records n e)) (get_or_read lives n life lives_have life_is d)
-    (subst (λ (t : LifeRecord Reply). NamesCommands life t) (get_or_read records n told records_have told_is e) here)))
+    (subst (λ (t : LifeRecord Reply). NamesCommands life t) (get_or_read records n report records_have report_is e) here)))
     (cases_lt m n)
 
 pub returns : goal.returns
