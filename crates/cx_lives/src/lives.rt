@@ -187,7 +187,7 @@ fn run_one<O: TypedObject + Sync, R: Threads + Wait + Sync, G: Gate + Sync>(
     })
 }
 
-/// The record `told` with its numbers of kept entries and of items filled in, and with the kept flag of each of its stop lines.
+/// The record `report` with its numbers of kept entries and of items filled in, and with the kept flag of each of its stop lines.
 fn with_kept<Reply: Drop>(report: LifeRecord<Reply>, kept: u64, items: u64) -> LifeRecord<Reply>
     ensures { HasFlags report kept items result }
 {

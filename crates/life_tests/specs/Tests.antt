@@ -9,18 +9,18 @@ use Rattle.client_pool.specs.declared.client.Client.{Client}
 use Rattle.client_pool.specs.declared.pool.Pool.{Pool}
 
 -- a pool whose object is the counters
-abbrev pub Counts : Pool Counters → Type 0
-Counts pool = IsPool (λ (_ : Counters). counters_read_only) pool
+abbrev pub IsCounterPool : Pool Counters → Type 0
+IsCounterPool pool = IsPool (λ (_ : Counters). counters_read_only) pool
 
 -- a client of a pool of counters
-abbrev pub IsOf : Pool Counters → Client → Type 0
-IsOf pool client = IsClientOf pool.service pool.line.table.shared.table_id client
+abbrev pub IsCounterClient : Pool Counters → Client → Type 0
+IsCounterClient pool client = IsClientOf pool.service pool.line.table.shared.table_id client
 
 -- all the clients of a pool of counters
-abbrev pub AreAll : Pool Counters → List Client → Type 0
-AreAll pool clients = AreClients pool.service pool.line.table.shared.table_id clients
+abbrev pub AreCounterClients : Pool Counters → List Client → Type 0
+AreCounterClients pool clients = AreClients pool.service pool.line.table.shared.table_id clients
 
 -- what a call hands back is a client of the pool between its calls, the same one that the call was given
-pub record IsBack (pool : Pool Counters) (before after : Client) : Type 0 where
-  pub client : IsOf pool after
+pub record IsClientBack (pool : Pool Counters) (before after : Client) : Type 0 where
+  pub client : IsCounterClient pool after
   pub same : IsSameClient before after

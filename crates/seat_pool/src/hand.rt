@@ -28,7 +28,7 @@ pub struct Returned {
 /// What a pass of the queue knows, for proofs. `home` is the service that lends the callers, once the pass knows it. The right to know the whole queue is
 /// cut into 1,024 `parts`: the first pass has all of them, and each further pass gets one of another's; a pass without any has done nothing. Then come the
 /// numbers of the callers that the pass placed in the queue; those that it holds, as they were when it took them out; the calls of which it learned that
-/// they were answered, each with its answer (`told`); the reads of which it learned (`shown`); and the callers that it gave back.
+/// they were answered, each with its answer (`told_calls`); the reads of which it learned (`shown`); and the callers that it gave back.
 pub struct LenderPass {
     pub home: Option<ServiceView>,
     pub parts: u32,
