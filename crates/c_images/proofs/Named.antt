@@ -22,7 +22,7 @@ module _ (kind callers lines place : ℕ) (region words : List ℕ) (some : 1 �
   one : SaysRegion words image
   one = says.one written.head.format_is
 
-  -- the words of one region, and those of the others
+  -- the image that words of one region say has its size
   pub has_size : HasSize image
   has_size =
       let n = region_words image.lines in
@@ -45,5 +45,6 @@ module _ (kind callers lines place : ℕ) (region words : List ℕ) (some : 1 �
       let behind : 8 + at ≡ at + 8 = omega arith in
       get_or-drop 8 words at 0 ∙ ap (slice_index words) behind ∙ written.each at (omega (arith, below, here))))
 
+  -- the base that the root of that image names is the region at its place
   pub named : named_base image ≡ base_at place region
   named = ap₂ base_at place_is region_is

@@ -15,15 +15,17 @@ use Rattle.recovery.proofs.Pairs.{gives_word, gives_zero}
 use Rattle.c_images.specs.Words.{SaysRegion, word_from}
 
 module _ (start : ℕ) (words : List ℕ) where
+  -- below the address of the first word the words put are 0
   before : (at : ℕ) → at < start → word_from start words at ≡ 0
   before at below = ap (λ b. if b then 0 else slice_index words (at - start + 8)) (lt-ltb at start below)
 
+  -- from the address of the first word on the words put are those after the head
   there : (at : ℕ) → word_from start words (start + at) ≡ slice_index words (at + 8)
   there at =
       ap (λ b. if b then 0 else slice_index words (start + at - start + 8)) (le-ltb (start + at) start (omega arith))
       ∙ ap (slice_index words) (omega arith)
 
-  -- no word is put there yet, one more that is not 0 is, and one that is 0
+  -- no word is put yet
   pub places_none : Gives (word_from start words) (start + 0) []
   places_none = record {
     rising = tt;
@@ -36,13 +38,15 @@ module _ (start : ℕ) (words : List ℕ) where
     next : (new : List (ℕ × ℕ)) → Gives (word_from start words) (start + at + 1) new → Gives (word_from start words) (start + (at + 1)) new
     next new of = subst (λ n. Gives (word_from start words) n new) (omega arith) of
 
+    -- one word more that is not 0 is put by a pair
     pub places_word : (new : List (ℕ × ℕ)) → (slice_index words (at + 8) ≡ 0 → ⊥) → new ≡ pairs ++ (start + at, slice_index words (at + 8)) ∷ [] → Gives (word_from start words) (start + (at + 1)) new
     places_word new some pushed = next new (gives_word (word_from start words) (start + at) pairs gives (slice_index words (at + 8)) new (sym (there at)) some pushed)
 
+    -- one word more that is 0 is put by no pair
     pub places_zero : (new : List (ℕ × ℕ)) → slice_index words (at + 8) ≡ 0 → new ≡ pairs → Gives (word_from start words) (start + (at + 1)) new
     places_zero new none same = next new (gives_zero (word_from start words) (start + at) pairs gives (slice_index words (at + 8)) new (sym (there at)) none same)
 
--- pairs of words that are put where a replica begins, in the terms of an image
+-- pairs of words that are put where a replica begins are so in the terms of the image
 pub at_replica : (words : List ℕ) (image : Image) (region replica : ℕ) (pairs : List (ℕ × ℕ)) → region ≡ region_words image.lines → replica ≡ root_replica_of image.callers image.root → image.pairs ≡ pairs
     → Gives (word_from (region * replica) words) (region * replica + (length words - 8)) pairs → Gives (word_from (region_start image) words) (region_start image + (length words - 8)) image.pairs
 at_replica words image region replica pairs r n p gives =
@@ -69,6 +73,7 @@ module _ (words : List ℕ) (image : Image) (some : 1 ≤ image.callers) (count 
       let parts : n * (2 * image.callers) ≡ n * others + n * 1 = ap (λ m. n * m) all ∙ mul-add n others 1 in
       omega (arith, size, count, parts)
 
+  -- pairs for the words after a head of format 2, put where the replica begins that the root names, say the image of these words
   pub says_region : SaysRegion words image
   says_region = record {
     count = count;

@@ -23,9 +23,11 @@ use Rattle.c_images.specs.declared.reader.WordsFault.TheVariants.{Head, Kind, Im
 abbrev refusal : ImageFault → Result Base ImageFault
 refusal fault = Err fault
 
+-- two refusals that are one have one fault
 err_is : (one two : ImageFault) → refusal one ≡ refusal two → one ≡ two
 err_is one two same = cc
 
+-- a refusal is no base
 not_ok : (fault : ImageFault) (base : Base) → refusal fault ≡ Ok base → ⊥
 not_ok fault base same = absurd cc
 
@@ -87,6 +89,7 @@ module _ (words : List ℕ) (headed : IsHeaded words) (one_image other_image : I
       ∙ sym (get_or-map-range_with_len (image_word other_image.pairs) start n at (start + at) 0 inside refl)))
       ∙ ap₂ (words_from other_image.pairs) start_is (ap region_words lines_are)
 
+  -- images that the same words say have the same region, where they have their size
   region_is : HasSize one_image → region_of one_image ≡ region_of other_image
   region_is size = elim headed.format [
     | inl all ↦ from_replicas size (says.replicas all) (other.replicas all)
@@ -94,6 +97,7 @@ module _ (words : List ℕ) (headed : IsHeaded words) (one_image other_image : I
   ]
 
   module _ (version : ℕ) (lawful : List ℕ → Type 0) (old : OldFormat) where
+    -- where one of two images that the same words say passes all checks, the other does
     pub same_accepted : IsAccepted version lawful old one_image → IsAccepted version lawful old other_image
     same_accepted is = record {
       size = size_is is.size;
@@ -101,12 +105,15 @@ module _ (words : List ℕ) (headed : IsHeaded words) (one_image other_image : I
       region = subst (λ n. HasLawfulRegion version lawful old n (region_of other_image)) place_is (subst (HasLawfulRegion version lawful old (place_in_root one_image)) (region_is is.size) is.region);
     }
 
+    -- a base that is recovered from one of two images that the same words say is recovered from the other
     pub same_recovered : (base : Base) → IsRecovered version lawful old one_image base → IsRecovered version lawful old other_image base
     same_recovered base is = record { accepted = same_accepted is.accepted; is = is.is ∙ ap₂ (recovered_base old) place_is (region_is is.accepted.size) }
 
+    -- a fault of the region of one of two images that the same words say is a fault of the other's
     same_region_fault : (fault : ImageFault) → HasSize one_image → IsRegionFault version lawful old (place_in_root one_image) (region_of one_image) fault → IsRegionFault version lawful old (place_in_root other_image) (region_of other_image) fault
     same_region_fault fault size is = subst (λ n. IsRegionFault version lawful old n (region_of other_image) fault) place_is (subst (λ region. IsRegionFault version lawful old (place_in_root one_image) region fault) (region_is size) is)
 
+    -- a fault of one of two images that the same words say is a fault of the other
     pub same_fault : (fault : ImageFault) → IsFaultOf version lawful old one_image fault → IsFaultOf version lawful old other_image fault
     same_fault (Size found) is = (is.0 ∙ count_is, λ size. is.1 (sym_size size))
     same_fault (Root found) is = (is.0 ∙ root_is, size_is is.1, λ has. is.2 (subst (λ n. n ≤ 1099511627776) (sym place_is) has))
@@ -119,20 +126,24 @@ module _ (words : List ℕ) (headed : IsHeaded words) (one_image other_image : I
 
 module _ (version : ℕ) (lawful : List ℕ → Type 0) (old : OldFormat)
     (exact : (image : Image) (answer : Result Base ImageFault) → MatchResult answer (IsRecovered version lawful old image) (IsFaultOf version lawful old image) → answer ≢ Err Memory → IsExactly version lawful old image answer) where
+  -- a refusal by another fault is not want of memory
   no_memory : (fault : ImageFault) → fault ≢ Memory → refusal fault ≢ refusal Memory
   no_memory fault other same = other (err_is fault Memory same)
 
-  -- an image has one fault but for want of memory, and none where it is accepted
+  -- an image has one fault but for want of memory
   one_fault : (image : Image) (one two : ImageFault) → IsFaultOf version lawful old image one → IsFaultOf version lawful old image two → one ≢ Memory → two ≢ Memory → one ≡ two
   one_fault image one two first second some other = err_is one two (asked (exact image (Err one) first (no_memory one some)) two second other)
 
+  -- an image that passes all checks has no fault but for want of memory
   no_fault : (image : Image) (fault : ImageFault) → IsAccepted version lawful old image → IsFaultOf version lawful old image fault → fault ≢ Memory → ⊥
   no_fault image fault accepted is other = not_ok fault (recovered_from old image) ((exact image (Err fault) is (no_memory fault other)).accepted accepted)
 
   module _ (words : List ℕ) (headed : IsHeaded words) where
+    -- a base that is recovered from an image that words say is recovered from each that they say
     accepted_alone : (base : Base) (image other : Image) → SaysImage words image → IsRecovered version lawful old image base → SaysImage words other → IsRecovered version lawful old other base
     accepted_alone base image other says is also = same_recovered words headed image other says also version lawful old base is
 
+    -- an answer for words, but for want of memory, is the one that the checks of each image ask for that they say
     pub answered_exactly : (answer : Result Base WordsFault) → MatchResult answer (IsTakenUp version lawful old words) (IsWordsFault version lawful old words) → answer ≢ Err (ImageRefused Memory)
         → AreAnsweredExactly version lawful old words answer
     answered_exactly (Ok base) answered some = record {

@@ -7,12 +7,15 @@ use Rattle.recovery.specs.Outcomes.{outcome_in}
 use Rattle.recovery.specs.declared.applied.Outcome.TheVariants.{Applied, Never}
 use Rattle.c_images.specs.Replies.{IsKeptReply, IsSlot}
 
+-- a slot with a number other than 0 says that an entry with it was applied
 applied_in : (n : ℕ) (kept : List ℕ) → n ≢ 0 → outcome_in n kept ≡ Applied n kept
 applied_in n kept some = ap (λ (b : Bool). if b then Never else Applied n kept) (ne_eqb n 0 some)
 
+-- two slots that say the same of an entry have the same reply
 same_reply : (n number : ℕ) (kept reply : List ℕ) → Applied n kept ≡ Applied number reply → kept ≡ reply
 same_reply n number kept reply same = cc
 
+-- a slot that says that no entry was applied does not say that one was
 not_never : (number : ℕ) (reply : List ℕ) → Never ≢ Applied number reply
 not_never number reply same = absurd cc
 

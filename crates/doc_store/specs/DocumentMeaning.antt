@@ -10,7 +10,7 @@ use Rattle.doc_model.specs.declared.operations.Reply.TheVariants.{Doc, Sum, Key,
 use Rattle.index_validation.specs.Reading.{StandsForRevised}
 use Rattle.typed_object.specs.Meaning.{Encoding, Meaning}
 
--- texts of bytes, and numbers of 64 bits
+-- a reply whose text, if it has one, has bytes, and whose number, if it has one, has 64 bits
 abbrev pub IsReplyValue : Reply → Type 0
 IsReplyValue (Doc document) = All (λ b. b < 256) document
 IsReplyValue (Sum sum) = FitsSigned w64 sum
@@ -26,6 +26,7 @@ pub record IsWholeReply (reply : Reply) : Type 0 where
   pub limits : IsReply reply
   pub number : HasWordNumber reply
 
+-- the words of operations and of replies
 abbrev pub document_encoding : Encoding Op Reply
 document_encoding = record { op_words = op_words; reply_words = reply_words }
 

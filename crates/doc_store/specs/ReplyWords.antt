@@ -9,10 +9,11 @@ use Rattle.doc_model.proofs.ReplyKinds.{reply_again, reply_document, reply_docum
 use Rattle.doc_model.proofs.WordTexts.{no_text}
 use Rattle.doc_store.specs.DocumentMeaning.{IsReplyValue}
 
--- the lengths of the texts stand in the words
+-- word 1 of a reply's words is the length of its key
 key_length : (reply : Reply) → get_or (reply_words reply) 1 0 ≡ length (reply_key reply)
 key_length reply = ap (λ w. get_or w 1 0) (reply_words_are reply) ∙ key_length_in 8 128 (reply_kind reply) (reply_key reply) (reply_document reply) (reply_number reply)
 
+-- word 2 of a reply's words is the length of its document
 document_length : (reply : Reply) → get_or (reply_words reply) 2 0 ≡ length (reply_document reply)
 document_length reply = ap (λ w. get_or w 2 0) (reply_words_are reply) ∙ document_length_in 8 128 (reply_kind reply) (reply_key reply) (reply_document reply) (reply_number reply)
 

@@ -40,6 +40,7 @@ verb_name verbs.Count = codes "count"
 verb_name verbs.PutIf = codes "putif"
 verb_name verbs.Rev = codes "rev"
 
+-- a word that is read as a verb is the verb's name
 pub verb_is : (word : List ℕ) (verb : Verb) → verb_of word ≡ Some verb → word ≡ verb_name verb
 unfolding verb_of
 verb_is word verb e =
@@ -156,6 +157,7 @@ behind text words verb v rest = spaced text words rest ∙ ap (λ (word : List �
 alone : (text : List ℕ) (verb : Verb) → verb_of (first_word text) ≡ Some verb → rest_of text ≡ None → text ≡ verb_name verb
 alone text verb v rest = unspaced text rest ∙ verb_is (first_word text) verb v
 
+-- a command is asked for by a text, where its verb and what stands behind it are read as that command
 pub with_verb : (text : List ℕ) (verb : Option Verb) (words : Option (List ℕ)) (op : Op) → verb_of (first_word text) ≡ verb → rest_of text ≡ words
     → op_by_verb verb words ≡ Ok op → Asks op text
 with_verb text (Some verbs.Put) (Some words) op v rest e = subst (Asks op) (sym (behind text words verbs.Put v rest)) (put_is words (rest_of words) op refl e)
@@ -202,6 +204,7 @@ add_again key amount k fits =
     let one = word_alone (signed_decimal amount) (signed_unspaced amount fits) in
     rw (cut.0, cut.1, one.1, key_passes key k) (ap (add_amount key) (integer_of-signed_decimal amount fits))
 
+-- a text that asks for a command is read as it
 pub asked_again : (op : Op) (text : List ℕ) → Asks op text → asked_op (Some text) ≡ Ok op
 unfolding verb_of
 asked_again (Put key document) text (json, spelled, k, is) = rw (spelled, append_assoc key (codes " ") json) (put_again key json document k is)
@@ -292,6 +295,7 @@ put_if_why : (words : List ℕ) (text : Option (List ℕ)) (reason : Reason) →
 put_if_why words None reason rest e = let same : reasons.Command ≡ reason = cc in rw (rest, same) refl
 put_if_why words (Some text) reason rest e = put_if_by_why words text (rest_of text) reason rest refl e
 
+-- the reason by which the words behind a verb are refused is the first of the table that fits
 pub verb_why : (verb : Option Verb) (words : Option (List ℕ)) (reason : Reason) → op_by_verb verb words ≡ Err reason → Fits (word_rows verb words) reason
 verb_why (Some verbs.Put) (Some words) reason e = put_why words (rest_of words) reason refl e
 verb_why (Some verbs.Del) (Some words) reason e = key_why Del words reason e
@@ -322,8 +326,10 @@ reads_in limits reason clients lives = record {
   refused = why;
 }
 
+-- commands on documents are read by their rules
 pub reads_commands : ReadsCommands document_commands asked_op
 reads_commands = reads_in (record { clients = 8; lives = 1000; cuts = true }) script_reason (omega arith) (omega arith)
 
+-- commands of a pool are read by their rules
 pub reads_pool_commands : ReadsCommands pool_commands asked_op
 reads_pool_commands = reads_in (record { clients = 64; lives = 1; cuts = false }) pool_reason (omega arith) (omega arith)

@@ -17,10 +17,11 @@ use Rattle.doc_text.specs.declared.commands.Verb.TheVariants as verbs
 abbrev pub is_one_word : List ℕ → Bool
 is_one_word text = not (is_some (rest_of text))
 
--- what stands behind the key, and behind the word after it
+-- what stands behind the key
 abbrev pub behind_key : Option (List ℕ) → Option (List ℕ)
 behind_key words = option_and_then rest_of words
 
+-- what stands behind the key and the word after it
 abbrev pub behind_two : Option (List ℕ) → Option (List ℕ)
 behind_two words = option_and_then rest_of (behind_key words)
 
@@ -38,13 +39,15 @@ has_words _ words = option_map_or is_one_word words false
 abbrev pub has_no_key : Option (List ℕ) → Bool
 has_no_key words = option_map_or (λ text. not (is_key (first_word text))) words false
 
--- whether the amount of an addition is no integer, or the revision of a put no number
+-- whether the amount of an addition is no integer
 abbrev pub is_no_integer : List ℕ → Bool
 is_no_integer amount = not (is_some (integer_of amount))
 
+-- whether the revision of a put is no number
 abbrev pub is_no_revision : List ℕ → Bool
 is_no_revision text = not (is_some (number_of (first_word text)))
 
+-- whether the amount of an addition is no integer, or the revision of a put no number
 abbrev pub has_no_number : Option Verb → Option (List ℕ) → Bool
 has_no_number (Some verbs.Add) words = option_map_or is_no_integer (behind_key words) false
 has_no_number (Some verbs.PutIf) words = option_map_or is_no_revision (behind_key words) false
@@ -56,15 +59,19 @@ json_in (Some verbs.Put) words = behind_key words
 json_in (Some verbs.PutIf) words = behind_two words
 json_in _ words = None
 
+-- whether a text is no JSON value
 abbrev pub is_no_value : List ℕ → Bool
 is_no_value json = not (is_some (read_json json))
 
+-- whether a text is a JSON value some number of which is no 64-bit integer
 abbrev pub has_fraction : List ℕ → Bool
 has_fraction json = option_map_or has_float (read_json json) false
 
+-- whether a text is a JSON value whose compact text has more than 1,024 bytes
 abbrev pub is_too_long : List ℕ → Bool
 is_too_long json = option_map_or (λ value. nat_lt 1024 (length (compact_text value))) (read_json json) false
 
+-- the reasons to refuse a command, by its verb and what stands behind it, each with whether it fits
 abbrev pub word_rows : Option Verb → Option (List ℕ) → List (Row Reason)
 word_rows verb words =
     (not (has_words verb words), reasons.Command)
@@ -75,5 +82,6 @@ word_rows verb words =
     ∷ (option_map_or is_too_long (json_in verb words) false, reasons.Long)
     ∷ []
 
+-- the reasons to refuse a command, by its words behind the client, each with whether it fits
 abbrev pub command_rows : Option (List ℕ) → List (Row Reason)
 command_rows text = word_rows (option_and_then (λ t. verb_of (first_word t)) text) (option_and_then rest_of text)

@@ -24,6 +24,7 @@ generated_command from client n = record {
 abbrev pub generated_commands : ℕ → ℕ → ℕ → List (Command Op)
 generated_commands from ops client = map (λ i. generated_command from client (client * ops + i)) (range_with_len 0 ops)
 
+-- the life of a load: its clients, each with its commands, and power choice 0
 abbrev pub generated_life : ℕ → ℕ → ℕ → Life Op
 generated_life from clients ops = record {
   clients = clients;
@@ -32,5 +33,6 @@ generated_life from clients ops = record {
   commands = flat_map (generated_commands from ops) (range_with_len 0 clients);
 }
 
+-- the script of a load: 1,024 lines and its one life
 abbrev pub generated_script : ℕ → ℕ → ℕ → Script Op
 generated_script from clients ops = record { lines = 1024; lives = generated_life from clients ops ∷ [] }

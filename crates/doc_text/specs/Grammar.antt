@@ -61,9 +61,10 @@ document_grammar = script_grammar document_commands
 abbrev pub IsScript : List ℕ → Script Op → Type 0
 IsScript text script = IsTextOf document_grammar text script
 
--- scripts of a pool, and the text of one
+-- scripts of a pool, read line by line
 abbrev pub pool_grammar : LineGrammar (Script Op) Reason
 pool_grammar = script_grammar pool_commands
 
+-- the text is that of a script of a pool
 abbrev pub IsPoolScript : List ℕ → Script Op → Type 0
 IsPoolScript text script = IsTextOf pool_grammar text script

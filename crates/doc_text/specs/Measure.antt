@@ -19,24 +19,27 @@ pub record IsMeasure (m : Measure) (d : Data) : Type 0 where
 abbrev pub IsInteger : List ℕ → Type 0
 IsInteger text = (n : Num) × (number_of text ≡ Some n) × (is_float n ≡ false)
 
--- the text is a number with this measure, or none
+-- the text is a number with this measure
 abbrev pub ReadsNumber : List ℕ → Measure → Type 0
 ReadsNumber text m = (n : Num) × (number_of text ≡ Some n) × IsMeasure m (number n)
 
+-- the text is no number
 abbrev pub IsNoNumber : List ℕ → Type 0
 IsNoNumber text = number_of text ≡ None
 
--- at the front of these tokens stands a value with this measure, and the rest is left; or none stands there
+-- at the front of these tokens stands a value with this measure, and the rest is left
 abbrev pub ReadsValue : ℕ → List Token → List Token → Measure → Type 0
 ReadsValue depth tokens rest m = (d : Data) × (converted of_json (value depth tokens) ≡ Some (d, rest)) × IsMeasure m d
 
+-- no value stands at the front of these tokens
 abbrev pub HasNoValue : ℕ → List Token → Type 0
 HasNoValue depth tokens = converted of_json (value depth tokens) ≡ None
 
--- at the front of these tokens stand the items of an array, to its end, with this measure, and the rest is left; or they do not
+-- at the front of these tokens stand the items of an array, to its end, with this measure, and the rest is left
 abbrev pub ReadsItems : ℕ → List Token → List Token → Measure → Type 0
 ReadsItems depth tokens rest m = (ds : Items) × (converted of_items (items (value depth) (length tokens) tokens) ≡ Some (ds, rest)) × IsMeasure m (array ds)
 
+-- the items of an array, to its end, do not stand at the front of these tokens
 abbrev pub HasNoItems : ℕ → List Token → Type 0
 HasNoItems depth tokens = converted of_items (items (value depth) (length tokens) tokens) ≡ None
 

@@ -34,26 +34,29 @@ abbrev pub put_with : List ℕ → Option (List ℕ) → Result Op Reason
 put_with key None = Err reasons.Command
 put_with key (Some json) = if is_key key then then_ok (Put key) (document_of json) else Err reasons.Key
 
--- what an addition asks for: a key and an amount
+-- what an addition to a key asks for, by the integer that its amount is
 abbrev pub add_amount : List ℕ → Option ℤ → Result Op Reason
 add_amount key None = Err reasons.Number
 add_amount key (Some amount) = Ok (Add key amount)
 
+-- what an addition asks for: a key and an amount
 abbrev pub add_with : List ℕ → Option (List ℕ) → Result Op Reason
 add_with key None = Err reasons.Command
 add_with key (Some text) =
     if is_some (rest_of text) then Err reasons.Command
     else (if is_key key then add_amount key (integer_of text) else Err reasons.Key)
 
--- what a put on condition asks for: a key, a revision, and JSON to the end of the line
+-- what a put on condition at a key asks for, by the number that its revision is and its JSON
 abbrev pub put_if_at : List ℕ → Option ℕ → List ℕ → Result Op Reason
 put_if_at key None json = Err reasons.Number
 put_if_at key (Some revision) json = then_ok (PutIf key revision) (document_of json)
 
+-- what a put on condition asks for, by the words for key and revision and its JSON
 abbrev pub put_if_by : List ℕ → List ℕ → Option (List ℕ) → Result Op Reason
 put_if_by key revision None = Err reasons.Command
 put_if_by key revision (Some json) = if is_key key then put_if_at key (number_of revision) json else Err reasons.Key
 
+-- what a put on condition asks for: a key, a revision, and JSON to the end of the line
 abbrev pub put_if_with : List ℕ → Option (List ℕ) → Result Op Reason
 put_if_with key None = Err reasons.Command
 put_if_with key (Some text) = put_if_by key (first_word text) (rest_of text)

@@ -5,6 +5,7 @@ use Rattle.script_text.specs.declared.lines.ScriptReason.TheVariants as all
 use Rattle.doc_text.specs.declared.script_parts.Reason.{Reason}
 use Rattle.doc_text.specs.declared.script_parts.Reason.TheVariants as reasons
 
+-- the reason of a refusal that any script may have
 abbrev pub script_reason : ScriptReason → Reason
 script_reason all.Utf8 = reasons.Utf8
 script_reason all.Header = reasons.Header
@@ -19,6 +20,7 @@ abbrev pub pool_reason : ScriptReason → Reason
 pool_reason all.Lives = reasons.Life
 pool_reason reason = script_reason reason
 
+-- a reason as a word
 abbrev pub reason_text : Reason → List ℕ
 reason_text reasons.Utf8 = codes "utf8"
 reason_text reasons.Header = codes "header"

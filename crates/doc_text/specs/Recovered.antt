@@ -14,6 +14,7 @@ applied_text applied =
 abbrev pub document_text : (List ℕ × List ℕ) × ℕ → List ℕ
 document_text triple = codes "document " ++ triple.0.0 ++ codes " rev " ++ decimal triple.1 ++ codes " " ++ triple.0.1 ++ codes "\n"
 
+-- the place, as the text begins with it
 unfoldable pub place_text : ℕ → List ℕ
 place_text place = codes "recovered place " ++ decimal place
 

@@ -9,6 +9,7 @@ use Rattle.script_text.specs.Report as reports
 use Rattle.script_text.specs.Report.{Wording}
 use Rattle.doc_text.specs.Grammar.{command_text}
 
+-- a reply as text
 abbrev pub reply_text : Reply → List ℕ
 reply_text New = codes "new"
 reply_text Replaced = codes "replaced"
@@ -25,6 +26,7 @@ reply_text (Set revision) = codes "set " ++ decimal revision
 reply_text (Stale revision) = codes "stale " ++ decimal revision
 reply_text (Revision revision) = codes "rev " ++ decimal revision
 
+-- how commands on documents, their replies and the number of documents are written in a report
 abbrev pub document_wording : Wording Op Reply
 document_wording = record { command_text = command_text; reply_text = reply_text; items = codes " documents " }
 
