@@ -62,7 +62,7 @@ mod shared;
 mod threads;
 mod tokens;
 
-pub use gaps::{gap_end, gap_slot, gap_word, keeps_gaps, named_lines, mark_changed, piece_of};
+pub use gaps::{gap_end, gap_slot, gap_word, keeps_gaps, mark_changed, named_lines, piece_of};
 pub use gather::{KeptTable, Room};
 pub use remains::{Remains, Trail};
 pub use root_steps::AnsweredRead;

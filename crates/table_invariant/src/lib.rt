@@ -40,8 +40,8 @@ mod laws;
 mod rule;
 
 pub use laws::{
-    events_are_recorded, events_keep_the_rule, listed_copies_are_learned,
-    loaded_images_are_learned, known_gaps_may_be_noted, known_sets_may_be_kept,
-    known_sets_may_be_offered, what_is_there_fits,
+    events_are_recorded, events_keep_the_rule, known_gaps_may_be_noted, known_sets_may_be_kept,
+    known_sets_may_be_offered, listed_copies_are_learned, loaded_images_are_learned,
+    what_is_there_fits,
 };
 pub use rule::{CoreRule, ImageTimes, KeptSet, Key, Known, Noted, Times, View};
