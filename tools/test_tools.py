@@ -617,6 +617,14 @@ class Program(unittest.TestCase):
             with self.subTest(words):
                 self.assertEqual((0, text.encode(), 0), self.ran(words, HEAD))
 
+    def test_runs_of_each_word(self):
+        """What only one word writes, and texts that are another word's."""
+        runs = json.loads((ROWS / "words.json").read_text("utf-8"))["runs"]
+        self.assertGreaterEqual(len(runs), 15)
+        for words, text, status, written in runs:
+            with self.subTest((words, text)):
+                self.assertEqual((status, written.encode(), len(text.encode())), self.ran(words, text.encode()))
+
     def test_scripts_of_a_queue(self):
         queues = json.loads((ROWS / "queues.json").read_text("utf-8"))
         self.assertGreaterEqual(len(queues), 22)
