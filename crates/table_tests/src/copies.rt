@@ -93,9 +93,6 @@ fn is_copied_at_opening(alloc: Global) -> Result<bool, AllocError> {
 // A word that no region has when a table is made.
 const OTHER: u64 = 1 << 40;
 
-// The words of a region of Tally.
-const REGION: u64 = 1680;
-
 // Stores `OTHER` over a word of the replica held exclusively.
 fn store_beside(
     shared: &Shared<Tally>,
@@ -145,16 +142,16 @@ const DIFFERING: [(u64, u64); 10] = [
     // none, the first word, the last one, a line, and all
     (0, 0),
     (0, 1),
-    (REGION - 1, REGION),
+    (1679, 1680),
     (800, 808),
-    (0, REGION),
+    (0, 1680),
     // about as many as a seat lists
-    (REGION - 511, REGION),
-    (REGION - 512, REGION),
-    (REGION - 513, REGION),
+    (1680 - 511, 1680),
+    (1680 - 512, 1680),
+    (1680 - 513, 1680),
     // about twice as many
-    (REGION - 1024, REGION),
-    (REGION - 1025, REGION),
+    (1680 - 1024, 1680),
+    (1680 - 1025, 1680),
 ];
 
 // Whether a copy over a replica of which the words from `from` up to `to` differ loads all words of both replicas and stores these, and a

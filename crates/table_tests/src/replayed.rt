@@ -16,7 +16,7 @@ use crate::holds::holds;
 use crate::tables::{NO_LIMIT, NO_LIMITS, made};
 use cx_base::tally::Tally;
 use cx_base::{Halt, Memory, Object};
-use cx_core::{Entry, OBJECT_START};
+use cx_core::Entry;
 use cx_table::{CallerSeat, Downgraded, Exclusive, Shared, SharedHold};
 use mutation_queue::{LinkTried, Protected, announce, entry, link, protect, unprotect};
 use replica::{ReadRegion, Region, begin, flush, outcome, place, replay_one};
@@ -346,14 +346,14 @@ fn take_and_load<O: Object>(
 // The address of the first of five words, a limit of steps, and the words that are loaded from a replica in the opening state. A try is one
 // step, and each load is one. A word that was not loaded is `OTHER`. The first word of the object part is Tally's version, 7.
 const LOADS: [(u64, u64, [u64; 5]); 10] = [
-    (OBJECT_START - 2, 0, [OTHER, OTHER, OTHER, OTHER, OTHER]),
-    (OBJECT_START - 2, 1, [OTHER, OTHER, OTHER, OTHER, OTHER]),
-    (OBJECT_START - 2, 2, [0, OTHER, OTHER, OTHER, OTHER]),
-    (OBJECT_START - 2, 3, [0, 0, OTHER, OTHER, OTHER]),
-    (OBJECT_START - 2, 4, [0, 0, 7, OTHER, OTHER]),
-    (OBJECT_START - 2, 5, [0, 0, 7, 0, OTHER]),
-    (OBJECT_START - 2, 6, [0, 0, 7, 0, 0]),
-    (OBJECT_START - 2, 7, [0, 0, 7, 0, 0]),
+    (1166, 0, [OTHER, OTHER, OTHER, OTHER, OTHER]),
+    (1166, 1, [OTHER, OTHER, OTHER, OTHER, OTHER]),
+    (1166, 2, [0, OTHER, OTHER, OTHER, OTHER]),
+    (1166, 3, [0, 0, OTHER, OTHER, OTHER]),
+    (1166, 4, [0, 0, 7, OTHER, OTHER]),
+    (1166, 5, [0, 0, 7, 0, OTHER]),
+    (1166, 6, [0, 0, 7, 0, 0]),
+    (1166, 7, [0, 0, 7, 0, 0]),
     (0, 6, [0, 0, 0, 0, 0]),
     (0, 3, [0, 0, OTHER, OTHER, OTHER]),
 ];

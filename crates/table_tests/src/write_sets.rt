@@ -9,7 +9,7 @@ use core_guards::callers::Callers;
 use core_guards::queue::{protects, shows_ticket};
 use cx_base::tally::Tally;
 use cx_base::{Halt, link_cell};
-use cx_core::{OBJECT_START, Protection, SeenOffer};
+use cx_core::{Protection, SeenOffer};
 use cx_table::{CallerSeat, Shared};
 use mutation_queue::{Protected, protect};
 use redo_set::{WriteSet, take};
@@ -17,7 +17,7 @@ use std::alloc::{AllocError, Global};
 use std::test::Fail;
 
 // The words that these tests write into a set: one pair, of the first word of the object part.
-const WORDS: [u64; 3] = [1, OBJECT_START, 9];
+const WORDS: [u64; 3] = [1, 1168, 9];
 
 // Writes a word into the set of the caller's entry with a ticket, where it may be written.
 fn write(
