@@ -56,7 +56,7 @@ next_more : (so_far : Option Base) (ends : List LifeEnd) (end_ : LifeEnd) → So
 next_more so_far [] end_ = refl
 next_more so_far (one ∷ ends) end_ = next_more (Some one.next) ends end_
 
--- the base that a life more begins with
+-- the base with which one life more begins, behind these lives
 abbrev pub IsLast : {Op Reply Store : Type 0} → Meaning Op Reply Store → ℕ → (List ℕ → Type 0) → List (LifeRecord Reply) → List (Life Op) → Base → Type 0
 IsLast m lines is_lawful records lives base = BeginsLife m lines is_lawful (begun_by m (nothing_begun m) lives records) base × (base.place ≤ command_count lives)
 
@@ -103,7 +103,7 @@ module _ {Op Reply Store : Type 0} (m : Meaning Op Reply Store) (lines version :
   start_anew begun first base (life ∷ lives) (report ∷ records) (trail ∷ trails) (end_ ∷ ends) are none = absurd (none-some (base_behind end_.next ends) (none ∙ next_behind end_.next ends))
   start_anew begun first base _ _ _ _ are none = absurd are
 
-  -- one that goes on is the base behind them
+  -- where a base goes on, it is the base behind the lives with these ends
   goes_on : (first before : Base) (ends : List LifeEnd) → Some before ≡ last_next None ends → before ≡ base_behind first ends
   goes_on first before [] is = absurd (none-some before (sym is))
   goes_on first before (end_ ∷ ends) is = same_Some before (base_behind end_.next ends) (is ∙ next_behind end_.next ends)
@@ -161,7 +161,7 @@ module _ {Op Reply Store : Type 0} (m : Meaning Op Reply Store) (lines version :
     ends = refl;
   }
 
--- what goes on where lives were lived, and before the first life
+-- the base of a next life is one with which one life more begins, also before the first life
 module _ {Op Reply Store : Type 0} where
   pub last_base : (m : Meaning Op Reply Store) (lines version : ℕ) (is_lawful : List ℕ → Type 0) (lives : List (Life Op)) (records : List (LifeRecord Reply)) (image : Option Image) (before : Option Base) (base : Base)
       → HaveEnded m lines version is_lawful (begun_by m (nothing_begun m) lives records) lives image before → IsNextBase m lines is_lawful before base → IsLast m lines is_lawful records lives base

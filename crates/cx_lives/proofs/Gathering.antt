@@ -104,7 +104,7 @@ gathered_more m life r before after work go_on g adds w =
       works = rw (locals, adds.entries, adds.reads, adds.stops, adds.fulls, adds.impossible) more;
     }
 
--- the results of workers from one on, by their numbers
+-- the results of workers whose numbers go on from `k`, by these numbers
 pub numbered : {Worker Done : Type 0} (IsOf : ℕ → Done → Type 0) (number_of : Worker → ℕ) (k : ℕ) (workers : List Worker) (works : List (Result Done AllocError)) → length works ≡ length workers → map number_of workers ≡ range_with_len k (length workers)
     → AreResultsOf (λ (w : Worker). IsOf (number_of w)) workers works → AreResultsFrom IsOf k works
 numbered IsOf number_of k [] [] long numbers each = tt
@@ -115,7 +115,8 @@ numbered IsOf number_of k (w ∷ ws) (d ∷ ds) long numbers each =
     )
 numbered IsOf number_of k _ _ long numbers each = absurd (omega (arith, long))
 
--- the result of the first of some workers, where it found memory, is one of that worker's client, and the results of the others are of the clients after it
+-- the result of the first of some workers, where it found memory, is one of that worker's client, and the results of the others are of the
+-- clients after it
 pub first_result : {Done : Type 0} (IsOf : ℕ → Done → Type 0) (k : ℕ) (works left : List (Result Done AllocError)) (first : Result Done AllocError) (done : Done) → works ≡ first ∷ left → first ≡ Ok done → AreResultsFrom IsOf k works → IsOf k done × AreResultsFrom IsOf (k + 1) left
 first_result {Done} IsOf k works left first done is was all = subst (AreResultsFrom IsOf k) (is ∙ ap (λ (w : Result Done AllocError). w ∷ left) was) all
 

@@ -52,7 +52,7 @@ module _ {Op Reply Store : Type 0} (t : TypedSteps Op Reply Store) (life : Life 
         let is = (law.answers.each client w at).reads seen.0 b.read seen.1 in
         reply_at_is t instance step_is base s law (b.read.place - instance.base.place) b.read.op b.op b.is (subst (AreOfNoReply t.meaning) is.reply b.bad)
 
-  -- so none has what none can have
+  -- no caller of a closed service has what none can have
   pub impossible : (locals : List Local) → map shown whole ≡ locals → EachLocal locals (IsLocalIn life) → instance.base.place + length life.commands ≤ 2 ^ 40 → HasImpossibleEnd t.meaning life locals → ⊥
   impossible locals shows each tickets h =
       let at = map_item shown whole h.client h.local (ap (λ ls. slice_get ls h.client) shows ∙ h.of_client) in

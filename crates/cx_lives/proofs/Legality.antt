@@ -26,7 +26,7 @@ use Rattle.cx_lives.proofs.Crashing.{closed_table, crashed_life, recovered_life}
 use Rattle.cx_lives.proofs.Recovering.{keeps_to}
 use Rattle.cx_lives.proofs.Entries.{few_entries}
 
--- of a legal life, from what its parts say
+-- a record is one of a legal life, from what is known of its parts
 module _ {Op Reply Store : Type 0} (m : Meaning Op Reply Store) (lines : ℕ) (is_lawful : List ℕ → Type 0) (place : ℕ) (store : Store) (life : Life Op) (report flagged : LifeRecord Reply) (next : Base) (from : flagged.from ≡ place) (report_from : report.from ≡ place)
     (ended : IsEnded life flagged) (has : HasReplies m place store life flagged) (goes : GoesOn m lines is_lawful place store life flagged next) where
   legal_of : IsLegal m place store life flagged

@@ -33,7 +33,7 @@ module _ {O : Type 0} {o : Ghosts O} {object : O} {base : Base} {remains : Remai
   abbrev inst : Instance
   inst = instance_at has.service o.step o.only_reads
 
-  -- what is kept of it, said over the object, the callers and the base
+  -- what is kept of the closed service, said over the object, the callers and the base
   module _ {choice : ℕ} {image : Image} {next : Base} (left : IsLeftOf remains choice image) (by : IsKeptBy o.line_count o.lawful o.step has.service has.seats remains choice next)
       (rec : IsKept inst has.leaves.state.history (record { words = has.leaves.words; locals = has.leaves.whole }) (recovered inst (crash_of image))) where
     pub ends_at : next.place ≡ root_place_of remains.callers (slice_index remains.trail.chain (choice % length remains.trail.chain))

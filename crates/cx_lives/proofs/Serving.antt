@@ -58,7 +58,7 @@ module _ {Op Reply Store : Type 0} (m : Meaning Op Reply Store) (life : Life Op)
   long : length es ≡ length l.own
   long = AllZip-long (IsAnsweredLine m life client l.answered) l.own es s.entry_lines
 
-  -- where each entry is answered, the caller was answered just those commands
+  -- where each entry is answered, the caller's answers and reads are as many as the commands that the client was answered
   answers_count : length l.own ≡ length l.answered → length l.answered + length l.seen_reads ≡ n
   answers_count even = omega (arith, even, long, AllZip-long (IsReadLine m.encoding life client) l.seen_reads rs s.read_lines, s.count)
 
@@ -215,7 +215,7 @@ module _ {Op Reply Store : Type 0} (m : Meaning Op Reply Store) (life : Life Op)
         done_entries : All (IsDoneEntry n (Some stop)) es
         done_entries = All-weaker (IsAnsweredEntry n) (IsDoneEntry n (Some stop)) (λ e h. inl h) es s.entries_done
 
-        -- before its link
+        -- a client that is stopped before an entry of its command was linked
         pub stops_beside : (es' : List (JournalLine Reply)) (rs' : List (ReadLine Reply)) → l'.number ≡ l.number → l'.own ≡ l.own → l'.answered ≡ l.answered
             → (l'.seen_reads ≡ l.seen_reads) ⊎ ((seen : Seen) × (l'.seen_reads ≡ one_read ws seen l) × (l'.shared ≢ None)) → es' ≡ es → rs' ≡ rs → IsWork m.encoding life client l' es' rs' (Some stop) None
         stops_beside es' rs' same_number own answered reads entries lines =
@@ -247,7 +247,7 @@ module _ {Op Reply Store : Type 0} (m : Meaning Op Reply Store) (life : Life Op)
               ]);
             }
 
-        -- behind its link
+        -- a client that is stopped after an entry of its command was linked
         pub stops_linked : (ticket : ℕ) (more : List Answer) (es' : List (JournalLine Reply)) (rs' : List (ReadLine Reply)) → LinksEntryAt ws ticket l l' → l'.answered ≡ l.answered ++ more → (more ≡ []) ⊎ (l'.won ≢ None)
             → es' ≡ es ++ record { ticket = ticket; client = client; command = number; reply = None } ∷ [] → rs' ≡ rs → IsWork m.encoding life client l' es' rs' (Some stop) None
         stops_linked ticket more es' rs' links answered won entries lines =
@@ -319,7 +319,7 @@ module _ {Op Reply Store : Type 0} (m : Meaning Op Reply Store) (life : Life Op)
     count = s.count;
   }
 
-  -- it has at most one entry for each command
+  -- a caller has at most as many entries as its client was answered commands
   pub few_own : length l.own ≤ n
   few_own = omega (arith, long, s.count)
 

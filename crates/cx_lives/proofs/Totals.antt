@@ -7,7 +7,7 @@ use Rattle.cx_core.specs.Merge.{all_own}
 use Rattle.life_records.specs.declared.script.Command.{Command}
 use Rattle.life_records.specs.Scripts.{own_ops}
 
--- the commands of so many clients from one on
+-- how many commands so many clients have together, from the client `from` on
 total : {Op : Type 0} → ℕ → ℕ → List (Command Op) → ℕ
 total from zero commands = 0
 total from (suc n) commands = length (own_ops from commands) + total (from + 1) n commands
@@ -65,7 +65,7 @@ module _ {Op : Type 0} (commands : List (Command Op)) where
   all_few from [] few = omega arith
   all_few from (l ∷ ls) few = omega (arith, length-append l.own (all_own ls), few_first from l ls few, all_few (from + 1) ls (few_later from l ls few))
 
-  -- one that has fewer
+  -- where one caller has fewer entries than its client has commands, all callers together have fewer than their clients
   all_fewer : (from : ℕ) (locals : List Local) (i : ℕ) (l : Local) → AreFew from locals → slice_get locals i ≡ Some l → length l.own < length (own_ops (from + i) commands) → length (all_own locals) < total from (length locals) commands
   unfolding total
   all_fewer from [] i l few at less = cc
@@ -77,7 +77,7 @@ module _ {Op : Type 0} (commands : List (Command Op)) where
       let same : from + suc i ≡ from + 1 + i = omega arith in
       omega (arith, length-append x.own (all_own xs), few_first from x xs few, all_fewer (from + 1) xs i l (few_later from x xs few) at (subst (λ k. length l.own < length (own_ops k commands)) same less))
 
-  -- so there are fewer entries than commands
+  -- where one caller has fewer entries than its client has commands, a life has fewer entries than commands
   pub entries_fewer : (locals : List Local) (client : ℕ) (l : Local) → AreFew 0 locals → slice_get locals client ≡ Some l → length l.own < length (own_ops client commands) → length (all_own locals) < length commands
   entries_fewer locals client l few at less =
       let same : client ≡ 0 + client = omega arith in

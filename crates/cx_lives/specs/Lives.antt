@@ -91,14 +91,15 @@ pub record HasLost {O Op Reply Store : Type 0} (o : Ghosts O) (m : Meaning Op Re
   pub flags : HasFlags report crashed.kept crashed.items flagged
   pub values : HasReplyValues m flagged
 
--- An image that may be read for an object of this many lines. By the choice a crash left it of the table of this trail, which was closed so.
+-- An image that may be read for an object of this many lines, and that a crash left, by the choice, of what the closed table of this trail left.
 pub record LeavesImage {Op Reply Store : Type 0} {m : Meaning Op Reply Store} {lines : ℕ} {is_lawful : List ℕ → Type 0} {step : List ℕ → List ℕ → List ℕ × List ℕ} {reads : List ℕ → Bool} {callers : ℕ} {trail : Ending}
     (by : IsLinearized m lines is_lawful step reads callers trail) (choice : ℕ) (image : Image) : Type 0 where
   pub readable : IsReadable lines image
   pub whole : AreRemainsWhole by.remains
   pub left : IsLeftOf by.remains choice image
 
--- The run that such a table made: all callers' steps, from the opening to the words and the local states that were closed, and this image of them.
+-- The run that the closed table of this trail made: all callers' steps, from the opening to the words and the local states that were closed,
+-- and this image of them.
 abbrev pub life_run : {Op Reply Store : Type 0} {m : Meaning Op Reply Store} {lines : ℕ} {is_lawful : List ℕ → Type 0} {step : List ℕ → List ℕ → List ℕ × List ℕ} {reads : List ℕ → Bool} {callers : ℕ} {trail : Ending}
     → IsLinearized m lines is_lawful step reads callers trail → Image → LifeRun
 life_run {step = step} {reads = reads} {callers = callers} {trail = trail} by image = record {
@@ -122,8 +123,8 @@ pub record IsLifeAmong {Op Reply Store : Type 0} (m : Meaning Op Reply Store) (l
   pub crashed : IsCrashedLife step reads trail.base (life_run witness.order image)
   pub next_is : next ≡ next_base step reads trail.base (life_run witness.order image)
 
--- The result of one life that begins so: a record of a legal life, one among others that began with this base; and the next life's base, which is recovered from
--- what its crash left.
+-- The result of one life that begins with this base: a record of a legal life, which is one life among others; and the next life's base, which
+-- is recovered from what the life's crash left.
 pub record HasLived {Op Reply Store : Type 0} (m : Meaning Op Reply Store) (lines version : ℕ) (is_lawful : List ℕ → Type 0) (step : List ℕ → List ℕ → List ℕ × List ℕ) (reads : List ℕ → Bool)
     (life : Life Op) (begun : Begun Store) (base : Base) (ran : Ran Reply) : Type 0 where
   pub legal : IsLegalLife m begun.place begun.store life ran.report
@@ -146,8 +147,8 @@ pub record LifeEnd : Type 0 where
   pub image : Image
   pub next : Base
 
--- There is a trail for each life and its record, which it tells. Its service began with the base that was recovered from the image that the crash left of the one
--- before, the first with this base.
+-- There is a trail for each life, which tells the life's record. The service of the first life began with this base, and that of each next life
+-- with the base that was recovered from the image that the crash of the life before left.
 abbrev pub AreToldFrom : {Op Reply Store : Type 0} → Meaning Op Reply Store → ℕ → ℕ → (List ℕ → Type 0) → (List ℕ → List ℕ → List ℕ × List ℕ) → (List ℕ → Bool) → Begun Store → Base
     → List (Life Op) → List (LifeRecord Reply) → List Ending → List LifeEnd → Type 0
 AreToldFrom m lines version is_lawful step reads begun base [] [] [] [] = Unit {0}
@@ -156,7 +157,7 @@ AreToldFrom m lines version is_lawful step reads begun base (life ∷ lives) (re
     × AreToldFrom m lines version is_lawful step reads (begun_after m begun life report.journal report.kept) end_.next lives records trails ends
 AreToldFrom m lines version is_lawful step reads begun base _ _ _ _ = ⊥
 
--- the runs of their services, each with what the crash left of it
+-- the runs of the services of these lives, each with what the crash left of it
 abbrev pub runs_of : {Op Reply Store : Type 0} (m : Meaning Op Reply Store) (lines version : ℕ) (is_lawful : List ℕ → Type 0) (step : List ℕ → List ℕ → List ℕ × List ℕ) (reads : List ℕ → Bool) (begun : Begun Store) (base : Base)
     (lives : List (Life Op)) (records : List (LifeRecord Reply)) (trails : List Ending) (ends : List LifeEnd) → AreToldFrom m lines version is_lawful step reads begun base lives records trails ends → List LifeRun
 runs_of m lines version is_lawful step reads begun base (life ∷ lives) (report ∷ records) (trail ∷ trails) (end_ ∷ ends) are =
@@ -181,12 +182,12 @@ pub record AreTold {Op Reply Store : Type 0} (m : Meaning Op Reply Store) (lines
   pub each : AreToldFrom m lines version is_lawful step reads (nothing_begun m) first lives records trails ends
   pub one : 0 < length lives → AreOneObject lines is_lawful step reads first (runs_of m lines version is_lawful step reads (nothing_begun m) first lives records trails ends each)
 
--- what the last of these crashes left
+-- what the last of these crashes left; `so_far` where there was none
 abbrev pub last_image : Option Image → List LifeEnd → Option Image
 last_image so_far [] = so_far
 last_image so_far (end_ ∷ ends) = last_image (Some end_.image) ends
 
--- the base that was recovered from what the last of these crashes left
+-- the base that was recovered from what the last of these crashes left; `so_far` where there was none
 abbrev pub last_next : Option Base → List LifeEnd → Option Base
 last_next so_far [] = so_far
 last_next so_far (end_ ∷ ends) = last_next (Some end_.next) ends

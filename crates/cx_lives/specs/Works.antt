@@ -32,7 +32,7 @@ module _ {Worker Done : Type 0} where
   abbrev pub AreResultsOf : (Worker → Done → Type 0) → List Worker → List (Result Done AllocError) → Type 0
   AreResultsOf IsOf workers works = (i : ℕ) (d : Result Done AllocError) (e : Worker) → i < length workers → IfOk (slice_index_or works i d) (IsOf (slice_index_or workers i e))
 
--- the results of the workers of the clients from one on, each where it found memory
+-- the results of the workers of this client and of the clients after it, each where it found memory
 abbrev pub AreResultsFrom : {Done : Type 0} → (ℕ → Done → Type 0) → ℕ → List (Result Done AllocError) → Type 0
 AreResultsFrom IsOf client [] = Unit {0}
 AreResultsFrom IsOf client (work ∷ works) = IfOk work (IsOf client) × AreResultsFrom IsOf (client + 1) works

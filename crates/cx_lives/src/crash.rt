@@ -24,7 +24,7 @@ use typed_object::TypedObject;
 pub struct Crashed {
     /// What the crash left.
     pub image: Image,
-    /// The base that was recovered from it, from which a next service may begin.
+    /// The base that was recovered from the image, from which a next service may begin.
     pub next: Base,
     /// The number of entries that are kept.
     pub kept: u64,
@@ -32,8 +32,9 @@ pub struct Crashed {
     pub items: u64,
 }
 
-/// Ends a closed service of the object in a crash, and recovers the base with which the next service begins. The service ended with a chain of root codes;
-/// `choice`, modulo their number, picks the one that the crash leaves, whose place ends what is kept. `Err` means out of memory.
+/// Ends a closed service of the object in a crash, and recovers the base with which the next service begins. The service ended with a
+/// chain of root codes; `choice`, modulo their number, picks the one that the crash leaves, whose place ends what is kept. `Err` means
+/// out of memory.
 pub fn end_in_crash<O: TypedObject>(
     alloc: Global,
     object: &O,
@@ -66,7 +67,8 @@ pub fn end_in_crash<O: TypedObject>(
     })
 }
 
-/// The law that what a closed service leaves is whole, and that its image by each choice may be read for the object and is recovered unless memory runs out.
+/// The law that what a closed service leaves is whole, and that its image by each choice may be read for the object and is recovered
+/// unless memory runs out.
 fn closed_services_recover<O: TypedObject>(object: &O, base: &Base, remains: &Remains)
     requires { HasClosed O.Object object.now base.now remains.now }
     ensures whole { AreRemainsWhole remains.now }
@@ -79,11 +81,11 @@ fn closed_services_recover<O: TypedObject>(object: &O, base: &Base, remains: &Re
 {
     // a closed service leaves all that a crash image is made of, and each image of it may be read for the object
     closed_tables_are_whole::<O>();
-    // recovery refuses no such image, unless memory runs out, and what it gives holds each answer
+    // recovery refuses no image of a closed service, unless memory runs out, and the base that it gives holds each answer
     closed_tables_recover::<O>();
-    // such an image has the object's own version, so nothing in it is upgraded
+    // each image of a closed service has the object's own version, so nothing in it is upgraded
     closed_tables_stay::<O>();
-    // by each choice the image is a crash image of the state that was closed
+    // the image of a closed service by each choice is a crash image of the state in which the service was closed
     crash_images_are_left::<O>();
     // what is recovered from a crash image is the full image after a place at or above DUR's
     crash_images_recover();

@@ -85,7 +85,7 @@ pub(crate) fn finish_and_gather<O: TypedObject, R: Wait, G: Gate>(
     ensures stopped { IfOk result (λ g. All (λ line. is_stopped line.note.holder g.ends.stops.items ≡ true) g.ends.fulls.items) }
     ensures all { IfOk result (λ g. length g.handed.items ≡ vec_len works) }
 {
-    // no clients have no lines: what the loop begins with
+    // with no clients there are no lines: what the loop begins with
     works_begin::<O::Op, O::Reply>();
     // the next client's lines go behind those of all clients before it: one turn of the loop
     works_go_on::<O::Op, O::Reply>();

@@ -44,8 +44,8 @@ impl<Reply: Drop> Lines<Reply> {
     }
 }
 
-/// Adds the line of a client's entry that is answered at `ticket`, by its command of this number. `false` where the words are no reply: then no
-/// line is added. `Err` means out of memory.
+/// Adds the line of the entry of a client's command of this number, which is answered at `ticket`. `false` where the words are no reply:
+/// then no line is added. `Err` means out of memory.
 pub fn note_entry<O: TypedObject>(
     alloc: Global,
     object: &O,
@@ -69,8 +69,8 @@ pub fn note_entry<O: TypedObject>(
     Ok(true)
 }
 
-/// Adds the line of a client's read that is answered at `place`, by its command of this number. `false` where the words are no reply: then no
-/// line is added. `Err` means out of memory.
+/// Adds the line of the read of a client's command of this number, which is answered at `place`. `false` where the words are no reply:
+/// then no line is added. `Err` means out of memory.
 pub fn note_read<O: TypedObject>(
     alloc: Global,
     object: &O,

@@ -24,7 +24,7 @@ pub(crate) fn lives_that_ran_have_lived<O: TypedObject>(object: &O, base: &Base)
         HasLivedOver O.Object object.now (O.meaning object.now) life begun base.now
         (record { report = flagged; trail = remains.trail; image = crashed.image; next = crashed.next }) }
 {
-    // each reply is the one-thread store's at its place, and a client's answers stand in rising places
+    // each reply is the one-thread store's at its place, and no answer to a client lies below what the client was told before
     replies_are_the_stores(object, base);
     // the recovered base keeps a prefix of the history with everything answered, and stands for the store after it
     kept_lives_go_on(object, base);

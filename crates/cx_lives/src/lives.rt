@@ -48,8 +48,8 @@ pub(crate) struct Ran<Reply> {
     pub(crate) next: Base,
 }
 
-/// Runs the lives of a script one after another, the first from the empty store and each next one from what was recovered after the
-/// crash that ended the one before. Each life is run as `run_life` runs it, with the same gate. Its service ended with a chain
+/// Runs the lives of a script one after another, the first from the object's opening and each next one from what was recovered after
+/// the crash that ended the one before. Each life is run as `run_life` runs it, with the same gate. Its service ended with a chain
 /// of root codes; the life's choice, modulo their number, picks the one whose place ends what is kept. The record's stop lines show which
 /// stopped commands are among what was kept. The memory that the crash left is reopened (`reopen_image` of `recovery`): each
 /// replica is made the one that was recovered, and those are the words with which every replica of the next life begins.

@@ -45,8 +45,8 @@ pub(crate) struct Progress<Reply> {
     pub(crate) lines: Lines<Reply>,
 }
 
-/// The result of a command: the client goes on, or it is at its end, or the command is not begun, since another caller keeps the
-/// client's cells, which the note names.
+/// The result of a command: the client goes on, or it is at its end, or the command is not begun, since another caller, which the note
+/// names, keeps the client's cells.
 #[derive(Drop)]
 pub(crate) enum CommandOutcome<Reply> {
     Next(Progress<Reply>),

@@ -80,7 +80,7 @@ module _ {Op Reply : Type 0} (encoding : Encoding Op Reply) (life : Life Op) (cl
       (e.0, has_filter p journal e.0 e.1 (passes e.0 e.3 e.4 from), cell.1 ∙ ap Some (sym e.2)))) in
       omega (arith, many, length-filter p journal)
 
-  -- and one at it
+  -- one of the client's answered entries is at the ticket
   pub least : (e : JournalLine Reply) × Contains journal e × (e.client ≡ client) × (e.ticket ≡ line.note.ticket) × IsSome e.reply
   least =
       let here = full.cells.here in

@@ -134,7 +134,7 @@ module _ {Op Reply : Type 0} (encoding : Encoding Op Reply) (life : Life Op) (lo
         let found = first_found (λ (x : StopLine). x.client) client stops line is in
         has-here (λ (x : StopLine). x.client) (λ (x : StopLine). x.command) client (done + 1) stops line found.0 found.1 end.command
 
-    -- where it has a full line, it gave up in that command
+    -- where a client has a full line, it gave up in the command behind those that it was answered
     full_in : (full : Option FullLine) → full_of client fulls ≡ full → IsSome full → has_full client (done + 1) fulls ≡ true
     full_in None is some = cc
     full_in (Some line) is some =

@@ -9,11 +9,11 @@ use Rattle.life_records.specs.Works.{first_of}
 use Rattle.life_records.proofs.Lists.{Each, Has, Rises, each_has, pairs_rise}
 
 module _ {X : Type 0} (of : X → ℕ) where
-  -- the first item is of the client
+  -- where the first item is of the client, it is found
   pub first_here : (client : ℕ) (x : X) (xs : List X) → of x ≡ client → first_of of client (x ∷ xs) ≡ Some x
   first_here client x xs e = ap (λ b. cond b (Some x) (first_of of client xs)) (eq-eqb (of x) client e)
 
-  -- or it is not, and is passed over
+  -- where the first item is not of the client, it is passed over
   pub first_past : (client : ℕ) (x : X) (xs : List X) → of x ≢ client → first_of of client (x ∷ xs) ≡ first_of of client xs
   first_past client x xs ne = ap (λ b. cond b (Some x) (first_of of client xs)) (ne_eqb (of x) client ne)
 

@@ -30,7 +30,7 @@ set_flag [] (y ∷ ys) i d flag z within = absurd z
 set_flag (x ∷ xs) (y ∷ ys) zero d flag z within = (record { client = z.0.client; command = z.0.command; steps = z.0.steps }, z.1)
 set_flag (x ∷ xs) (y ∷ ys) (suc i) d flag z within = (z.0, set_flag xs ys i d flag z.1 (omega arith))
 
--- two stop lines of one client, or none
+-- two stop lines that are the same but for the kept flag, or none twice
 abbrev SameStopOf : Option StopLine → Option StopLine → Type 0
 SameStopOf None None = Unit {0}
 SameStopOf (Some a) (Some b) = IsSameStop a b
@@ -93,7 +93,7 @@ reads_flagged encoding life client a b seen lines same are = record {
   stopped = All-weaker (IsStoppedRead encoding life client a) (IsStoppedRead encoding life client b) (λ x is. stopped_flagged encoding life client a b x same is) are.left are.stopped;
 }
 
--- what holds of a stop line whatever its flag holds of those that got theirs
+-- what holds of stop lines whatever their kept flags are, still holds of them with other flags
 stops_flagged : (P : StopLine → Type 0) → ((a b : StopLine) → IsSameStop a b → P a → P b) → (xs ys : List StopLine) → AllZip IsSameStop xs ys → All P xs → All P ys
 stops_flagged P f xs ys z all = all_each P ys (zip_each IsSameStop P P f xs ys z (each_all P xs all))
 
@@ -169,7 +169,7 @@ module _ {Op Reply : Type 0} (life : Life Op) (report flagged : LifeRecord Reply
     answered = f.answered;
   }
 
-  -- and so does what the clients came to
+  -- what the clients came to stays
   pub still_ended : IsEnded life report → IsEnded life flagged
   still_ended e = record {
     tickets = rw (same.journal, same.from) e.tickets;

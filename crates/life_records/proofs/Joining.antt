@@ -45,7 +45,7 @@ full_by life n done l stop None end = tt
 full_by life n done l None (Some line) end = (end.client_is, tt)
 full_by life n done l (Some other) (Some line) end = absurd end
 
--- there is one at the most
+-- an Option has one item at the most, so all pairs of its items are in order
 one_item : {X : Type 0} (R : X → X → Type 0) (o : Option X) → AllPairs R (option_to_list o)
 one_item R None i j d up within = absurd (omega arith)
 one_item R (Some line) i j d up within = absurd (omega arith)
@@ -103,7 +103,7 @@ module _ {Op Reply : Type 0} (encoding : Encoding Op Reply) (life : Life Op) (lo
   full_mine : full_of n (fulls ++ option_to_list full) ≡ full
   full_mine = line_mine (λ (s : FullLine). s.client) fulls full m.of_fulls fs_by
 
-  -- lines by client stay so
+  -- lines that stand by client still do with the next client's line behind them
   in_order : {X : Type 0} (of : X → ℕ) (xs : List X) (o : Option X) → AllPairs (λ a b. of a < of b) xs → All (λ x. of x < n) xs → Each (λ x. of x ≡ n) (option_to_list o) → AllPairs (λ a b. of a < of b) (xs ++ option_to_list o)
   in_order of xs o order below by =
       pairs_append (λ a b. of a < of b) xs (option_to_list o) order (one_item (λ a b. of a < of b) o)

@@ -60,7 +60,7 @@ module _ {Op Reply : Type 0} (encoding : Encoding Op Reply) (life : Life Op) (pl
   long_journal : length journal ≡ length history
   long_journal = length_permutation entries journal sorted.moved ∙ m.long ∙ own_count place history locals merged
 
-  -- by ticket, they have the tickets from the place on
+  -- by ticket, the lines have the tickets from the place on
   tickets_are : (i : ℕ) (line : JournalLine Reply) → slice_get journal i ≡ Some line → line.ticket ≡ place + i
   tickets_are i line at =
       let long : length (map ticket_of journal) ≡ length history = length_map ticket_of journal ∙ long_journal in
@@ -72,7 +72,7 @@ module _ {Op Reply : Type 0} (encoding : Encoding Op Reply) (life : Life Op) (pl
       has_map ticket_of journal found.0 t (has_moved entries journal found.0 sorted.moved found.1) same) in
       ranged place (map ticket_of journal) (climbs_from ticket_of journal sorted.up) all i line.ticket (slice_get-map ticket_of journal i ∙ ap (option_map ticket_of) at)
 
-  -- and each caller has the same lines in the same order
+  -- by ticket, each caller has the same lines in the same order
   same_lines : (i : ℕ) (l : Local) → slice_get locals i ≡ Some l → filter (by_entry i) journal ≡ filter (by_entry i) entries
   same_lines i l at =
       let p = by_entry i in
@@ -83,7 +83,7 @@ module _ {Op Reply : Type 0} (encoding : Encoding Op Reply) (life : Life Op) (pl
       (λ z h. has_filter p entries z (has_moved journal entries z (IsPermutation-sym entries journal sorted.moved) (filter_has p journal z h)) (passes journal z h))
       (λ z h. has_filter p journal z (has_moved entries journal z sorted.moved (filter_has p entries z h)) (passes entries z h))
 
-  -- so the journal's lines are the clients', too
+  -- by ticket, the lines are still the clients'
   pub still_works : AreWorks encoding life locals journal reads stops fulls
   still_works = record {
     each = λ i l at. subst (λ ls. IsWork encoding life i l ls (filter (by_read i) reads) (stop_of i stops) (full_of i fulls)) (sym (same_lines i l at)) (m.each i l at);
@@ -144,7 +144,7 @@ module _ {Op Reply : Type 0} (encoding : Encoding Op Reply) (life : Life Op) (pl
         stopped = All-contains (λ (x : FullLine). is_stopped x.note.holder stops ≡ true) fulls line stopped (has_contains fulls line has);
       }
 
-  -- and a record of them is told by the history
+  -- a record of the journal's lines is told by the history
   pub report_is_told : All (λ (line : FullLine). is_stopped line.note.holder stops ≡ true) fulls → (report : LifeRecord Reply) → IsRecordOf place locals journal reads stops fulls report → length locals ≡ life.clients →
       ((client : ℕ) (l : Local) → slice_get locals client ≡ Some l → l.limit ≡ limit_in client life.cuts) → IsTold encoding life place history locals report
   report_is_told stopped report is callers limits = record {

@@ -66,7 +66,7 @@ module _ {Op Reply Store : Type 0} (t : TypedSteps Op Reply Store) (callers : �
         replies = λ client below. ap (slot_reply client) words_are ∙ after.replies client below;
       }
 
-  -- what its slots say now
+  -- what the base of the life stands for, and what its slots say
   begun_now : Begun Store
   begun_now = record { place = base.place; store = store; results = λ client. (slot_number client base.words, slot_reply client base.words) }
 

@@ -78,7 +78,7 @@ module _ {Op Reply Store : Type 0} (t : TypedSteps Op Reply Store) where
         store_after_all m store (ops_of life (line ∷ journal)) ≡ store_after_all m (m.store_after store op) (ops_of life journal)
     store_next store line op journal named = ap (λ (o : Option Op). store_after_all m store (cons_option o (ops_of life journal))) named
 
-    -- after each number of entries
+    -- after any number of entries the image stands for the store after their operations
     pub stands_at : (n : ℕ) (history : List Entry) (journal : List (JournalLine Reply)) (image : List ℕ) (store : Store) → HaveWordsOfLines m.encoding life history journal → Stands image store → n ≤ length history →
         Stands (image_after t.step image (take n history)) (store_at m store life journal n)
     stands_at zero history journal image store are s within = s

@@ -1,4 +1,4 @@
--- The answers to one client, by rising numbers of their commands, have rising places.
+-- No answer to a client lies below what the client was told before, in an answer to an earlier command.
 use Rattle.std.proofs.Common.{◌≡◌, ◌+◌, ◌<◌, ◌≤◌, ◌⊎◌, inl, inr, ℕ, List, map, filter, Some, refl, sym, ap, ◌∙◌, arith}
 use Rattle.std.specs.List.{Contains, filter_map, slice_get}
 use Rattle.std.proofs.lemmas.Bool.{cases_lt, cases_order}

@@ -14,7 +14,7 @@ pub record TypedSteps (Op Reply Store : Type 0) : Type 1 where
   pub object : ObjectLaws lines lawful step
   pub means : HasMeaning lawful opening step reads meaning
 
--- those of an object with these laws
+-- the typed steps of an object with these laws
 abbrev pub typed_steps : {Op Reply Store : Type 0} → (lines : ℕ) (lawful : List ℕ → Type 0) (opening : List ℕ) (step : List ℕ → List ℕ → List ℕ × List ℕ) (reads : List ℕ → Bool)
     (meaning : Meaning Op Reply Store) → AreLaws lines lawful step → HasMeaning lawful opening step reads meaning → TypedSteps Op Reply Store
 typed_steps lines lawful opening step reads meaning laws means = record {

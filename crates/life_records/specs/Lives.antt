@@ -88,7 +88,7 @@ has_stop client command stops = list_any (is_stop_in client command) stops
 abbrev pub has_full : ℕ → ℕ → List FullLine → Bool
 has_full client command fulls = list_any (is_full_in client command) fulls
 
--- a client was stopped
+-- whether the client was stopped, as one of these lines says
 abbrev pub is_stopped : ℕ → List StopLine → Bool
 is_stopped client stops = list_any (λ line. line.client == client) stops
 
@@ -200,7 +200,7 @@ AreLivesFrom m place store (life ∷ lives) (report ∷ records) =
     × AreLivesFrom m (place + report.kept) (store_at m store life report.journal report.kept) lives records
 AreLivesFrom m place store _ _ = ⊥
 
--- the records are legal lives of the script, from place 0 and the empty store on
+-- the records are legal lives of the script, from place 0 and the opening store on
 abbrev pub AreLegalLives : {Op Reply Store : Type 0} → Meaning Op Reply Store → Script Op → List (LifeRecord Reply) → Type 0
 AreLegalLives m script records = AreLivesFrom m 0 m.opening script.lives records
 

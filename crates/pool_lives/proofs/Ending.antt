@@ -24,7 +24,7 @@ use Rattle.pool_lives.specs.PoolRuns.{HasPooledOver, IsLifeOfPool}
 use Rattle.pool_lives.specs.Running.{HasMet}
 use Rattle.typed_object.specs.Meaning.{HasMeaning}
 
--- the record with what was kept
+-- the record with its numbers of kept entries and of items
 abbrev pub with_kept : {Reply : Type 0} → LifeRecord Reply → ℕ → ℕ → LifeRecord Reply
 with_kept report kept items = record {
   clients = report.clients;

@@ -34,7 +34,7 @@ module _ {Op Reply Store : Type 0} (t : TypedSteps Op Reply Store) (instance : I
   pub no_bad_call : (history : List HistoryEntry) → law.history ≡ history → (calls : List Call) → IsBadCall t.meaning calls → All (IsCallOf instance history) calls → ⊥
   no_bad_call history same calls b all = not_bad calls b (subst (λ (h : List HistoryEntry). All (IsCallOf instance h) calls) (sym same) all)
 
--- the lists of the clients from one on
+-- the lists of one client among those of the clients from `client` on
 pub local_there : (client : ℕ) (calls : List (List Call)) (i : ℕ) (own : List Call) → slice_get calls i ≡ Some own → slice_get (locals_from client calls) i ≡ Some (local_of (client + i) own)
 local_there client [] i own at = absurd (none-some own at)
 local_there client (cs ∷ calls) zero own at = (let same : client ≡ client + 0 = omega arith in ap (λ (xs : List Call). Some (local_of client xs)) (same_Some cs own at) ∙ ap (λ n. Some (local_of n own)) same)
@@ -55,7 +55,7 @@ all_long client (cs ∷ calls) =
     let l = local_of client cs in
     omega (arith, length-append l.own (all_own (locals_from (client + 1) calls)), own_long client cs, all_long (client + 1) calls)
 
--- a client that has fewer entries than commands leaves fewer in all
+-- where one client has fewer entries than commands, all clients together have fewer
 pub fewer_in_all : {Op : Type 0} (life : Life Op) (calls : List (List Call)) (number : ℕ) (own : List Call) → ((i : ℕ) (cs : List Call) → slice_get calls i ≡ Some cs → length (entries_called cs) ≤ length (own_ops i life.commands)) → slice_get calls number ≡ Some own
     → length (entries_called own) < length (own_ops number life.commands) → total_weight (λ (cs : List Call). length (entries_called cs)) calls < length life.commands
 fewer_in_all life calls number own few at less =

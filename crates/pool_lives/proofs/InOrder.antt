@@ -23,7 +23,7 @@ module _ {Op Reply : Type 0} (encoding : Encoding Op Reply) (life : Life Op) (lo
       (λ z h. has_filter p entries z (has_moved journal entries z (IsPermutation-sym entries journal moved) (filter_has p journal z h)) (passes journal z h))
       (λ z h. has_filter p journal z (has_moved entries journal z moved (filter_has p entries z h)) (passes entries z h))
 
-  -- so they are still the clients' lines
+  -- in the other order the lines are still the clients'
   pub works_in_order : AreWorks encoding life locals journal reads stops fulls
   works_in_order = record {
     each = λ i l at. subst (λ ls. IsWork encoding life i l ls (filter (by_read i) reads) (stop_of i stops) (full_of i fulls)) (sym (same_lines i l at)) (m.each i l at);

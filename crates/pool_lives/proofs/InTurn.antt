@@ -1,4 +1,4 @@
--- The answers of clients in rising places, and their lines by ticket.
+-- The answers of clients in turn, and their lines by ticket.
 use Rattle.std.proofs.Common.{◌≡◌, ◌+◌, ◌<◌, ℕ, List, [], ◌∷◌, length, get_or, map, filter, slice_get, Option, None, Some, sym, ap, subst, ◌∙◌, refl, inl, inr, ◌⊎◌, arith}
 use Rattle.std.specs.Prelude.{Contains, IsPermutation, IsSome}
 use Rattle.std.specs.List.{cons_option, filter_map}

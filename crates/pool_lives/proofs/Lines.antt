@@ -62,13 +62,13 @@ module _ {Op Reply Store : Type 0} (t : TypedSteps Op Reply Store) (callers : �
       has_map ticket_of report.journal found.0 n (has_moved is.entries report.journal found.0 is.sorted.moved (contains_has is.entries found.0 found.1)) same) in
       ranged base.place (map ticket_of report.journal) (climbs_from ticket_of report.journal is.sorted.up) all i line.ticket (slice_get-map ticket_of report.journal i ∙ ap (option_map ticket_of) at)
 
-  -- by ticket, they are the clients' lines
+  -- by ticket, the lines are the clients'
   pub works : AreWorks t.meaning.encoding life is.clients report.journal report.reads [] []
   works =
       works_in_order t.meaning.encoding life is.clients is.entries report.journal report.reads [] [] is.works is.sorted.moved (rises_from ticket_of base.place report.journal tickets_are)
       (tickets_rise t.meaning.encoding life is.clients is.entries report.reads is.works is.in_turn)
 
-  -- so all clients have ended: each was answered all its commands
+  -- all clients have ended: each was answered all its commands
   pub ended : IsEnded life report
   ended = record {
     tickets = λ i line at. tickets_are i line at ∙ ap (λ p. p + i) (sym is.from);
@@ -117,7 +117,7 @@ module _ {Op Reply Store : Type 0} (t : TypedSteps Op Reply Store) (callers : �
       let same : l.own ≡ w.0.own = sym (ap (λ (y : Local). y.own) w.2) in
       own_at caller base.place law.history k.0 x (ap (λ (os : List Linked). slice_get os k.0) (sym (law.tickets.merged.own caller w.0 w.1)) ∙ ap (λ (os : List Linked). slice_get os k.0) (sym same) ∙ k.1)
 
-  -- and is of that caller
+  -- a caller's entry is of that caller
   pub of_caller : (caller : ℕ) (l : Local) (x : Linked) → slice_get is.locals caller ≡ Some l → Contains l.own x → x.entry.caller ≡ caller
   of_caller caller l x at there =
       let w = caller_at caller l at in

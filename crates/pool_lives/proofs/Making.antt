@@ -155,7 +155,7 @@ module _ {O Op Reply Store : Type 0} (m : Meaning Op Reply Store) (life : Life O
     cannot = inl (record { last = last; fewer = fewer_before });
   }
 
-  -- by whether the words are a reply's
+  -- what an answered command comes to, by whether the words of the answer are a reply's
   pub entry_makes : (answer : Answer) → HasUpdated r table ws before after answer → (is_reply : Bool) → AddsClientEntry m client number answer old new is_reply → MakesCommand m life r table clients client number after new is_reply
   entry_makes answer u true notes = entry_made answer u notes
   entry_makes answer u false bad = entry_bad answer u bad.1

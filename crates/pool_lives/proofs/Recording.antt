@@ -60,7 +60,7 @@ module _ (instance : Instance) (history : List HistoryEntry) (locals : List Loca
   are_callers : (calls : List Call) → All (IsCallOf instance history) calls → All (IsCallersCall locals) calls → AreOfCallers locals (local_of client calls)
   are_callers calls each all = record { entries = entries_are calls all; answers = answers_are calls each all; reads = reads_are 0 calls all }
 
--- the calls of a client hold in turn
+-- the place below which no later answer holds is at or above that of the answer itself
 next_from : (call : Call) → answer_place_of call ≤ next_place_of call
 next_from (Entry answered) = omega arith
 next_from (Look read) = omega arith

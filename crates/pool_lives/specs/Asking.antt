@@ -41,7 +41,7 @@ ClientRequestEnds r table op reply before after (Done ticket) = HasUpdated r tab
 ClientRequestEnds r table op reply before after (Read place) = HasRead r table op before after (seen_with place reply)
 ClientRequestEnds r table op reply before after Worn = HasNoMore r table before after × KeepsLast after
 
--- the result of asking for it once: nothing where no cell is idle, and the client may ask again
+-- the result of asking for an operation once: nothing where no cell is idle, and the client may ask again
 abbrev pub ClientAsksOnce : {O : Type 0} → Running O → TableId → List ℕ → List ℕ → Client → Client → Option CallOutcome → Type 0
 ClientAsksOnce r table op reply before after (Some asked) = ClientRequestEnds r table op reply before after asked
 ClientAsksOnce r table op reply before after None = HasNoMore r table before after × MayAsk r table after

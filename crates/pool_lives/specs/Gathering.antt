@@ -47,7 +47,7 @@ pub record AreClientsGathered {O Op Reply Store : Type 0} (m : Meaning Op Reply 
   pub few : (number : ℕ) (own : List Call) → slice_get calls number ≡ Some own → length (entries_called own) ≤ length (own_ops number life.commands)
   pub works : MatchBool g.impossible (ClientHasImpossibleEnd m life g.clients.items calls) (HaveLines m life calls g.lines.entries.items g.lines.reads.items)
 
--- one client's more
+-- the clients and lines before, with those of the next client added
 pub record AddsServed {Reply : Type 0} (before after : GatheredClients Reply) (served : ServedClient Reply) : Type 0 where
   pub client : after.clients.items ≡ before.clients.items ++ served.client ∷ []
   pub entries : after.lines.entries.items ≡ before.lines.entries.items ++ served.lines.entries.items

@@ -10,8 +10,8 @@ use Rattle.life_records.specs.Lives.{IsLegalLife}
 use Rattle.life_records.specs.Records.{Encoding, JournalLine, Life, LifeRecord, Meaning, ReadLine}
 use Rattle.life_records.specs.Works.{HasCommandWords, IsReadLine}
 
--- A record of such a life, from place 0 and the opening store on: one of a legal life in which nobody was stopped and nobody ended Full, so
--- that each command of each client is answered once.
+-- A record of a life whose clients share callers, from place 0 and the opening store on: one of a legal life in which nobody was stopped and
+-- nobody ended Full, so that each command of each client is answered once.
 pub record IsPoolLife {Op Reply Store : Type 0} (m : Meaning Op Reply Store) (life : Life Op) (report : LifeRecord Reply) : Type 0 where
   pub legal : IsLegalLife m 0 m.opening life report
   pub stops : report.stops ≡ []

@@ -20,8 +20,8 @@ pub record IsServiceReady {O : Type 0} (object : O) (r : Running O) (seats : Lis
   pub new : AreNewCallers r seats
   pub unlimited : AreUnlimited (map (λ (s : Seated). s.known.local.limit) seats)
 
--- What is recorded of it before the crash, when its service was closed: the lists of each client, whose lines the record has, are of callers of the
--- service, and all that its history has.
+-- What is recorded of a life before the crash, when its service was closed: the lists of each client, whose lines the record has, are of callers
+-- of the service, and have all entries of its history.
 pub record HasMet {O Op Reply Store : Type 0} (m : Meaning Op Reply Store) (step : O → List ℕ → List ℕ → List ℕ × List ℕ) (reads : O → List ℕ → Bool) (life : Life Op) (r : Running O) (report : LifeRecord Reply) (remains : Remains) : Type 0 where
   pub seats : List Seated
   pub leaves : ClosingWitness r (instance_at r step reads) seats remains

@@ -79,7 +79,7 @@ pub record IsClientWorn {Op : Type 0} (life : Life Op) (number : ℕ) (client : 
   pub last : KeepsLast client
   pub fewer : length (entries_called calls) < length (own_ops number life.commands)
 
--- what no closed service leaves of a client: no further ticket while it has commands left, or an answer whose words are no reply
+-- what no closed service leaves of a client: no further ticket while it has fewer entries than commands, or an answer whose words are no reply
 abbrev pub CannotBeLeft : {Op Reply Store : Type 0} → Meaning Op Reply Store → Life Op → ℕ → Client → List Call → Type 0
 CannotBeLeft m life number client calls = IsClientWorn life number client calls ⊎ IsBadCall m calls
 

@@ -20,8 +20,8 @@ pub(crate) enum CallOutcome {
     Worn,
 }
 
-/// Asks for an operation until it is answered, and writes its reply into `reply`. Where no cell is idle it asks again: those who keep the cells release
-/// them in time. `Err` means out of memory.
+/// Asks for an operation until it is answered or there is no further ticket, and writes its reply into `reply`. Where no cell is idle it
+/// asks again, until those who keep the cells release them. `Err` means out of memory.
 pub(crate) fn ask<O: Object, R: Wait>(
     rt: &R,
     pool: &Pool<O>,

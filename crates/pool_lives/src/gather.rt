@@ -52,7 +52,7 @@ pub(crate) fn gather<O: TypedObject>(
     ensures gathered { IfOk result (AreClientsGathered (O.meaning object.now) life.now pool.now.service pool.now.line.table.shared.table_id) }
     ensures all { IfOk result (λ g. length g.clients.items ≡ vec_len works) }
 {
-    // no clients have no lines: what the loop begins with
+    // with no clients there are no lines: what the loop begins with
     works_begin::<O::Op, O::Reply>();
     // the next client's lines go behind those of all clients before it: one turn of the loop
     works_go_on::<O::Op, O::Reply>();

@@ -16,8 +16,9 @@ use cx_core::Base;
 use life_records::steps_are_meant;
 use typed_object::TypedObject;
 
-/// The law on a record of clients that shared the callers of a service, where it agrees with a lawful state of the service (`IsPoolRecorded`): each line of it
-/// is one of an entry or a read of a caller; and with a base that was kept of that state the record is one of a legal life.
+/// The law on a record of clients that shared the callers of a service, where the record agrees with a lawful state of the service
+/// (`IsPoolRecorded`), and a base was kept of that state: the record is one of a legal life, and each line is one of an entry or a read
+/// of a caller.
 pub fn told_pools_have_lived<O: TypedObject>(object: &O, base: &Base)
     requires { LawfulBase (O.line_count object.now) (O.lawful object.now) base.now }
     ensures { (callers : ℕ) (s : State) (store : O.Store) (life : Life O.Op) (report : LifeRecord O.Reply) (next : entry_base.Base)

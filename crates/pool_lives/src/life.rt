@@ -17,8 +17,8 @@ use std::sync::Wait;
 use std::thread::Threads;
 use typed_object::TypedObject;
 
-/// Runs a worker for each client, which share the callers, and closes their pool. Gives the record of the life before the crash, with nothing kept, and
-/// what the service leaves. `Err` means out of memory.
+/// Runs a worker for each client of a pool, in which the clients share the callers, and closes the pool. Gives the record of the life
+/// before the crash, with nothing kept, and what the service leaves. `Err` means out of memory.
 pub(crate) fn live<O: TypedObject + Sync, R: Threads + Wait + Sync, G: Gate + Sync>(
     rt: &R,
     alloc: Global,

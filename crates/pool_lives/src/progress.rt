@@ -1,4 +1,4 @@
-//! A client between two of its commands, and the result of a command.
+//! A client makes one of its commands.
 
 ghost use Rattle.std.specs.Prelude.{◌≡◌, ◌-◌, ◌≤◌, IfOk, Some};
 ghost use Rattle.client_pool.specs.Lending.{IsPool};
@@ -14,9 +14,8 @@ use std::alloc::{AllocError, Global};
 use std::sync::Wait;
 use typed_object::TypedObject;
 
-/// Makes the client's command of this number, and adds the line of its answer to `lines`. `false` is what cannot be: there was no further ticket, or the
-/// words of the answer are no reply.
-/// `Err` means out of memory.
+/// Makes the client's command of this number, and adds the line of its answer to `lines`. `false` is what cannot be: there was no further
+/// ticket, or the words of the answer are no reply; then no line is added. `Err` means out of memory.
 pub(crate) fn make<O: TypedObject, R: Wait>(
     rt: &R,
     alloc: Global,
