@@ -46,14 +46,14 @@ module _ (start : ℕ) (words : List ℕ) where
     pub places_zero : (new : List (ℕ × ℕ)) → slice_index words (at + 8) ≡ 0 → new ≡ pairs → Gives (word_from start words) (start + (at + 1)) new
     places_zero new none same = next new (gives_zero (word_from start words) (start + at) pairs gives (slice_index words (at + 8)) new (sym (there at)) none same)
 
--- pairs of words that are put where a replica begins are so in the terms of the image
+-- pairs of words that are put at `region * replica` are put where the replica begins that the image's root names, where both numbers are the image's
 pub at_replica : (words : List ℕ) (image : Image) (region replica : ℕ) (pairs : List (ℕ × ℕ)) → region ≡ region_words image.lines → replica ≡ root_replica_of image.callers image.root → image.pairs ≡ pairs
     → Gives (word_from (region * replica) words) (region * replica + (length words - 8)) pairs → Gives (word_from (region_start image) words) (region_start image + (length words - 8)) image.pairs
 at_replica words image region replica pairs r n p gives =
     subst (λ (ps : List (ℕ × ℕ)). Gives (word_from (region_start image) words) (region_start image + (length words - 8)) ps) (sym p)
     (subst (λ start. Gives (word_from start words) (start + (length words - 8)) pairs) (ap₂ (λ a b. a * b) r n) gives)
 
--- put where the replica begins that the root names, they are the words of that replica
+-- pairs that put the words after a head where the replica begins that the root names give that replica these words
 module _ (words : List ℕ) (image : Image) (some : 1 ≤ image.callers) (count : image.count ≡ length words - 8 + region_words image.lines * (2 * image.callers - 1))
     (gives : Gives (word_from (region_start image) words) (region_start image + (length words - 8)) image.pairs) where
   abbrev others : ℕ

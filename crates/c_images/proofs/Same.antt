@@ -122,7 +122,7 @@ module _ (words : List ℕ) (headed : IsHeaded words) (one_image other_image : I
     same_fault Body is = (size_is is.0, subst (λ n. n ≤ 1099511627776) place_is is.1, same_region_fault Body is.0 is.2)
     same_fault Memory is = tt
 
--- ---- so the answer for words is the one that the checks of any image ask for that they say
+-- ---- the answer for words is the one that the checks of each image ask for that the words say
 
 module _ (version : ℕ) (lawful : List ℕ → Type 0) (old : OldFormat)
     (exact : (image : Image) (answer : Result Base ImageFault) → MatchResult answer (IsRecovered version lawful old image) (IsFaultOf version lawful old image) → answer ≢ Err Memory → IsExactly version lawful old image answer) where

@@ -24,7 +24,7 @@ use recovery::{
 };
 
 /// Words that `write_image` wrote of a closed service have a head of that kind, and `base_of` refuses them only where memory runs out. What it takes up
-/// holds each answer that the service's callers were given: it is the full image of the history after the root's place.
+/// holds each answer that the service's callers were given: it is the full image after the entries of the history below the root's place.
 pub fn written_images_are_taken_up<O: Object>()
     ensures headed { (r : _) (kind choice : ℕ) (words : List ℕ) → IsKind kind → AreRemainsWhole r → AreRemainsWritten kind r choice words → IsHeaded words × (object_kind_in words ≡ kind) }
     ensures taken_up { (table : Running O) (seats : List Seated) (r : _) (kind choice : ℕ) (words : List ℕ) (answer : _) →
@@ -55,8 +55,8 @@ pub fn written_images_tell_outcomes<O: Object>()
 }
 
 /// A base that is taken up of words that `write_image` wrote of a closed service has replies of one kind only, where those that the service was opened
-/// with are of that kind and its object's step answers by no others. Each result in such a base is one that the service was opened with, or a reply of the
-/// step.
+/// with are of that kind and its object's step answers by no others. 144 zeros, which answer words of no operation, count as a reply here. Each result
+/// in such a base is one that the service was opened with, or a reply of the step.
 pub fn written_images_keep_replies<O: Object>()
     ensures { (replies : ReplyKind) (table : Running O) (seats : List Seated) (r : _) (kind choice : ℕ) (words : List ℕ) (base : _) →
         IsOpened O.line_count O.lawful table → ClosingWitness table (instance_at table O.step O.only_reads) seats r → AreRemainsWritten kind r choice words →

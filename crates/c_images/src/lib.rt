@@ -11,13 +11,14 @@
 //! - `write_image` writes what a crash leaves of a closed service, by choice, as recovery's `crash_image` has it, in format 1, and takes no memory.
 //! - `write_base` writes an image of one region, in format 2. `taken_images_are_taken_up`: where that is a lawful base at its place, the image is refused
 //!   only where memory runs out, and else the base is taken up.
-//! - `head_of`, `base_of`: the base from which a service may start again, or why there is none: recovery's refusals, and what it does not look at.
+//! - `head_of`, `base_of`: the base from which a service may start again, or why there is none: a refusal of recovery's, or one by what recovery does
+//!   not look at: the head, the kind of object and the numbers of the results.
 //!   `words_are_answered_exactly`: which of these is answered for words of either format, unless memory runs out.
 //! - `written_images_are_taken_up`: what `write_image` wrote is refused only where memory runs out, and what is taken up of it holds each
 //!   answer (`IsKeptBy`).
-//! - `holds_replies`: whether its results keep replies of a document store, of a queue, or of a program's object. Those of a closed service do where
-//!   those of the base did that it was opened from: `written_images_keep_replies`; and those of an image that was taken before the closing:
-//!   `taken_images_keep_replies`.
+//! - `holds_replies`: whether a base's results keep replies of a document store, of a queue, or of a program's object. Where those of the base did that
+//!   a service was opened from, and the object's step answers by no others, those of the closed service do (`written_images_keep_replies`), and so
+//!   do those of an image that was taken before the closing (`taken_images_keep_replies`).
 #![tactic(auto)]
 
 mod head;

@@ -20,7 +20,7 @@ use std::alloc::{AllocError, Global};
 pub enum WordsFault {
     /// The words do not begin with the head of an image.
     Head,
-    /// They are of another kind of object: of this one.
+    /// The words begin with the head of an image of another kind of object: of kind `found`.
     Kind { found: u64 },
     /// Recovery refuses the image, or memory ran out.
     Image(ImageFault),
@@ -98,7 +98,7 @@ fn region_image(alloc: Global, words: &[u64], head: Head) -> Result<Image, Alloc
     })
 }
 
-/// Pairs for the words after the head, of which the first is put at an address.
+/// Pairs for the words after the head that are not 0, of which the first word is put at the address `start`.
 fn pairs_from(alloc: Global, words: &[u64], start: u64) -> Result<Vec<(u64, u64)>, AllocError>
     requires enough { 8 ≤ length words.now }
     requires start { start ≤ 2 ^ 32 }

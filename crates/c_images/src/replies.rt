@@ -35,7 +35,7 @@ pub fn holds_replies(alloc: Global, base: &Base, kind: ReplyKind) -> Result<bool
     Ok(true)
 }
 
-/// Whether a base holds no reply for a caller, or one of a kind.
+/// Whether a base holds no result of a caller, or one that keeps a reply of this kind or 144 zeros.
 fn is_reply_slot(
     alloc: Global,
     base: &Base,
@@ -52,7 +52,7 @@ fn is_reply_slot(
     }
 }
 
-/// Whether words are a reply of this kind, or 0.
+/// Whether words are a reply of this kind, or 144 zeros.
 fn is_kept_reply(alloc: Global, words: &ReplyWords, kind: ReplyKind) -> Result<bool, AllocError>
     ensures { IfOk result (λ is. IsTrue is ↔ IsKeptReply (IsReplyOfKind kind) words.now) }
 {
@@ -63,7 +63,7 @@ fn is_kept_reply(alloc: Global, words: &ReplyWords, kind: ReplyKind) -> Result<b
     }
 }
 
-/// Whether words are a reply of a document store, or 0.
+/// Whether words are a reply of a document store, or 144 zeros.
 fn is_document_reply(alloc: Global, words: &ReplyWords) -> Result<bool, AllocError>
     ensures { IfOk result (λ is. IsTrue is ↔ IsKeptReply IsDocumentReply words.now) }
 {
@@ -77,7 +77,7 @@ fn is_document_reply(alloc: Global, words: &ReplyWords) -> Result<bool, AllocErr
     }
 }
 
-/// Whether words are a reply of a queue, or 0.
+/// Whether words are a reply of a queue, or 144 zeros.
 fn is_queue_reply(alloc: Global, words: &ReplyWords) -> Result<bool, AllocError>
     ensures { IfOk result (λ is. IsTrue is ↔ IsKeptReply IsQueueReply words.now) }
 {

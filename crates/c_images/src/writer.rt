@@ -20,7 +20,8 @@ pub fn image_words(remains: &Remains) -> u64
 }
 
 /// Writes what a crash leaves of a closed service whose object is of this kind, by choice. Choice 0 leaves of each word what was
-/// durable, choice 1 what was stored last, and others a mixture; the root is one of the codes published from the durable one on.
+/// durable, choice 1 what was stored last, and each other choice of each dirty word a number computed from the choice and the word's address; the
+/// root is one of the codes published from the durable one on.
 pub fn write_image(remains: &Remains, kind: u64, choice: u64, words: &mut [u64])
     requires whole { AreRemainsWhole remains.now }
     requires long { length words.old ≡ image_size remains.now.callers remains.now.lines + 8 }

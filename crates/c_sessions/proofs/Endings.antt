@@ -39,7 +39,7 @@ module _ {O : Type 0} (r : Running O) where
     share_is = none;
   }
 
-  -- one more was taken out
+  -- a pass that took one caller more out has it among those that it took out
   pub has_more : (given : List Handed) (handover : ReturnQueue O) (before after : Pass (HandedIn O) (Knows O)) (share : Option (Arc (Running O) Global)) (gathered more : List Handed) (x : HandedIn O) (caller : Handed) → x.handed ≡ Some caller → HasTaken r given handover before share gathered → IsPassOf handover.line after
       → IsHandedInAt (view before).home x → view after ≡ pass_with_taken (view before) x → more ≡ gathered ++ caller ∷ [] → HasTaken r given handover after (Some x.service) more
   has_more given handover before after share gathered more x caller it has of is taken pushed =
@@ -66,7 +66,7 @@ module _ {O : Type 0} (r : Running O) where
       → HasTaken r given handover after share gathered
   has_same given handover before after share gathered has of same = record { of = of; taken = has.taken; is = same ∙ has.is; same = has.same; each = has.each; share_is = has.share_is }
 
-  -- no list is left where all are taken out
+  -- a list of length 0 is empty
   none_elsewhere : {X : Type 0} (xs : List X) → length xs ≡ 0 → xs ≡ []
   none_elsewhere [] none = refl
   none_elsewhere (x ∷ xs) none = absurd (omega (arith, none))
@@ -78,7 +78,7 @@ module _ {O : Type 0} (r : Running O) where
         let range : total_weight h (range_with_len 0 (callers_known (view pass).home)) ≡ total_weight h (range_with_len 0 r.callers) = ap (λ (v : Knows O). total_weight h (range_with_len 0 (callers_known v.home))) has.is in
         omega (arith, held, range, tells.callers h)
 
-    -- none is elsewhere
+    -- where as many were gathered as the service has callers, none is elsewhere
     few : (length tells.due ≡ 0) × (length tells.left ≡ 0)
     few =
         let all = counted (λ _. 1) in let same = has.same (λ _. 1) in
@@ -108,7 +108,7 @@ module _ {O : Type 0} (r : Running O) where
               omega (arith, left, gave, took, order f, has.same f, tells.accounts f));
         }
 
-  -- whose share there is, there is a caller
+  -- where as many were gathered as the service has callers, there is a share of the service
   pub no_share : (share : Option (Arc (Running O) Global)) (gathered : List Handed) → MatchOption share (gathered ≡ []) (λ s. arc_value s ≡ r) → share ≡ None → 0 < r.callers → r.callers ≤ length gathered → ⊥
   no_share None gathered is none some_callers many = (let few : length gathered ≡ 0 = ap length is in absurd (omega (arith, few, some_callers, many)))
   no_share (Some s) gathered is none some_callers many = absurd cc

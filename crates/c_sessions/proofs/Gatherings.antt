@@ -22,7 +22,7 @@ cut_weighs : (h : ℕ → ℕ) (xs : List ℕ) → total_weight h (take 1 xs) + 
 cut_weighs h [] = refl
 cut_weighs h (x ∷ xs) = omega arith
 
--- the number of a caller, if it is one, weighs as the caller does by it
+-- the number of a caller, if there is one, weighs as the caller does by its number
 numbers_same : (h : ℕ → ℕ) (o : Option Handed) → total_weight h (numbers_in o) ≡ total_weight (by_number h) (kept_list o)
 numbers_same h None = refl
 numbers_same h (Some g) = refl
@@ -60,7 +60,7 @@ module _ {O : Type 0} where
   all_weigh part f [] = refl
   all_weigh part f (u ∷ us) = omega (arith, total_both f (part u) (all_of part us), all_weigh part f us)
 
-  -- what the other passes have of it
+  -- what all passes but one have of one kind
   others_weigh : {X : Type 0} (part : Knows O → List X) (views : List (Knows O)) (pass : ℕ) (v : Knows O) → get_elem? views pass ≡ some v
       → (others : List X) × ((f : X → ℕ) → total_weight (λ (u : Knows O). total_weight f (part u)) views ≡ total_weight f (part v) + total_weight f others)
   others_weigh part [] pass v at = absurd (some-ne-none v (sym at))

@@ -35,7 +35,7 @@ none_seen r (Idle caller) = record { front = omega arith; read = inl (omega arit
 none_seen r (Linked linked) = λ ticket at. omega arith
 none_seen r (Stopped stopped) = tt
 
--- a place does not fall from one moment to the next, what stands of the caller then has seen it, and it is the same caller
+-- the place does not fall from `before` to `after`, and the caller `number`, in whichever state it is then, has seen the place `after`
 pub record Goes {O : Type 0} (r : Running O) (number before after : ℕ) (handed : Handed) : Type 0 where
   pub rises : before ≤ after
   pub seen : HasSeenPlace r after handed
@@ -144,7 +144,7 @@ module _ {O : Type 0} (r : Running O) (place : ℕ) where
   takes_go o words tries (Linked u) taken after caller was takes = no_image taken (Linked u) after was takes.0 takes.1
   takes_go o words tries (Stopped u) taken after caller was takes = no_image taken (Stopped u) after was takes.0 takes.1
 
--- the session after a call that leaves its share, has this stand of its caller, and tells this place
+-- the session after a call: its share as before, its caller as the call left it, and this place
 abbrev after : {O : Type 0} → Session O → Handed → ℕ → Session O
 after s h place = record { service = s.service; exit = s.exit; handed = Some h; place = place }
 
@@ -153,7 +153,7 @@ pub record Left {O : Type 0} (s : Session O) (h : Handed) (place reached : ℕ) 
   pub opened : IsSessionOpen (after s h place)
   pub stands : SessionStands s (after s h place) reached (come_to (arc_value s.service))
 
--- a call leaves the session so where what stands of the caller goes on to this, of what stood before the call and had seen the session's place
+-- a call leaves the session open, with this result, where its caller had seen the session's place before and goes on to the place reached (`Goes`)
 pub left_by : {O : Type 0} (come_to : Running O → Handed → Handed → Type 0) (s : Session O) (b h : Handed) (service : Running O) (place reached : ℕ) → service ≡ arc_value s.service → IsSessionOpen s → s.handed ≡ Some b → place ≡ reached
     → IsHandedOf service h → come_to service b h → (IsHandedOf service b → HasSeenPlace service s.place b → Goes service (handed_number b) s.place reached h) → Left s h place reached come_to
 left_by come_to s b h service place reached same opened at is of came going =

@@ -25,8 +25,8 @@ use Rattle.c_sessions.specs.declared.session.Session.{Session}
 abbrev pub IsServiceWithCallers : {O : Type 0} → Running O → Kept O → Type 0
 IsServiceWithCallers r kept = (kept.service ≡ r) × AreSeats r (seats_of kept.callers.items)
 
--- These callers are those that the pass of this account took out of the sessions' queue, as they were when they were handed in, with all that they had made and
--- were answered. What the session handed in itself, these, are among them.
+-- These callers are those that the pass of this account took out of the sessions' queue, as they were when they were handed in, with all that they had
+-- made and were answered. What the session handed in itself, `given`, is among them.
 pub record AreAccounted {O : Type 0} (handover : ReturnQueue O) (given : List Handed) (account : Account O) (handed : List Handed) : Type 0 where
   pub of : IsPassOf handover.line account.pass
   pub taken : AreSame handed (view account.pass).taken
@@ -53,9 +53,9 @@ module _ {O : Type 0} (line_count : O → ℕ) (lawful : O → List ℕ → Type
     pub accounted : AreAccounted handover given account handed
     pub closed : IsClosedWith r (seats_of handed) remains
 
-  -- The last session, which handed in its caller so, closes the service with what all sessions handed in; where there are others, the service has further callers.
-  -- Where it is not closed, what the session has stays: the service with all its callers, or, where a caller is missing or a share of the service is elsewhere, what
-  -- it took out.
+  -- The last session, which handed in `given`, closes the service with what all sessions handed in; where there are others, the service has further
+  -- callers. Where the service is not closed, what the session has stays: the service with all its callers, or, where a caller is missing or a share
+  -- of the service is elsewhere, what the session took out.
   abbrev pub ClosesTo : Running O → ReturnQueue O → List Handed → Closing O → Type 0
   ClosesTo r handover given Others = 1 < r.callers
   ClosesTo r handover given (Again session) = ⊥

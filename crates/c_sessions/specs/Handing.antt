@@ -34,7 +34,7 @@ pub record IsRoom (count : ℕ) (items : List Handed) (capacity : ℕ) : Type 0 
   pub none : items ≡ []
   pub enough : count ≤ capacity
 
--- a way out of the service for these callers: a pass of its queue for all callers, and room for them
+-- a way out of the service for these callers: a pass of its queue that is to hand them in, and room for all callers of the service
 pub record IsExitOf {O : Type 0} (r : Running O) (due : List ℕ) (exit : ClosingState O) : Type 0 where
   pub some : 0 < r.callers
   pub count : (arc_value exit.handover).callers ≡ r.callers
@@ -42,7 +42,8 @@ pub record IsExitOf {O : Type 0} (r : Running O) (due : List ℕ) (exit : Closin
   pub gathered : IsRoom r.callers exit.gathered.items (vec_capacity exit.gathered)
   pub out : IsRoom r.callers exit.out.items (vec_capacity exit.out)
 
--- A pass has handed in its caller, as it was then, and these are the callers that it took out, as they were then, whose shares of the service are one.
+-- A pass has handed in its caller, as it was then, and these are the callers that it took out, as they were handed in. Where there are any, a share of
+-- the service is kept.
 pub record HasTaken {O : Type 0} (r : Running O) (given : List Handed) (handover : ReturnQueue O) (pass : Pass (HandedIn O) (Knows O)) (share : Option (Arc (Running O) Global)) (gathered : List Handed) : Type 0 where
   pub of : IsPassOf handover.line pass
   pub taken : List Handed
@@ -51,7 +52,7 @@ pub record HasTaken {O : Type 0} (r : Running O) (given : List Handed) (handover
   pub each : All (IsHandedOf r) gathered
   pub share_is : MatchOption share (gathered ≡ []) (λ s. arc_value s ≡ r)
 
--- what the session that is closed last, which handed in its caller so, has of the service's callers, with room for all
+-- what the session that is closed last, which handed in `given`, has of the service's callers, with room for all
 pub record IsSessionRestOf {O : Type 0} (r : Running O) (given : List Handed) (rest : Unclosed O) : Type 0 where
   pub some : 0 < r.callers
   pub count : (arc_value rest.exit.handover).callers ≡ r.callers

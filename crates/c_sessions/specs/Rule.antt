@@ -11,7 +11,7 @@ use Rattle.seat_pool.specs.Pooling.{total_weight}
 use Rattle.c_sessions.specs.declared.rule.HandedIn.{HandedIn}
 use Rattle.c_sessions.specs.declared.rule.Knows.{Knows}
 
--- the number of a caller that is handed in, if it is one
+-- the number of a caller that is handed in, if there is one
 abbrev pub numbers_in : Option Handed → List ℕ
 numbers_in None = []
 numbers_in (Some g) = handed_number g ∷ []

@@ -107,7 +107,7 @@ impl<O: Object> Session<O> {
     }
 }
 
-/// Gathers the callers that are still in the queue, and closes the service where these are all.
+/// Gathers the callers that are still in the queue, and closes the service where all callers are gathered then and no share of it is elsewhere.
 pub fn close_rest<O: Object>(alloc: Global, rest: Unclosed<O>) -> Closing<O>
     requires { (r : Running O) × (given : List handed_type.Handed) × IsSessionRestOf r given rest }
     ensures { (r : Running O) (given : List handed_type.Handed) → IsSessionRestOf r given rest → ClosesTo O.line_count O.lawful O.step O.only_reads r (arc_value rest.exit.handover) given result }

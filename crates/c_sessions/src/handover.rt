@@ -119,8 +119,8 @@ impl<O: Object> ReturnQueue<O> {
         None
     }
 
-    /// Gives the proof what the rule of the queue says of the callers (`TellsAll`), and changes nothing: those that are with the pass and those elsewhere are
-    /// all of the service, each once; and those that were taken out are those that were handed in.
+    /// Gives the proof what the rule of the queue says of the callers (`TellsAll`), and changes nothing: those that are with the pass and those
+    /// elsewhere are all of the service, each once; and those that were handed in are those that were taken out or still lie in the queue.
     pub(crate) fn learn(&self, pass: &mut Pass<HandedIn<O>, Knows<O>>)
         requires { IsPassOf self.now.line pass.old × (r : Running O) × ((view pass.old).home ≡ Some r) }
         ensures same { IsPassOf self.now.line pass.new × (view pass.new ≡ view pass.old) }

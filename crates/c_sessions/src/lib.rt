@@ -9,7 +9,7 @@
 //! - `open`, `open_from`: a session for each caller of a new service, over the object's first base or over another.
 //! - `Session::call`, `Session::finish`: what a call answers is the service's answer, and the session is open again.
 //! - `Session::place`, `Session::catch_up`: the place tells another session what this one has seen, and once that one caught up with it, its later
-//!   answers stand at or above it (`SessionStands`, `Sees`).
+//!   answers stand at or above it (`SessionStands`, `SeesIn`).
 //! - `Session::checkpoint`: the session takes an image of the object while the others go on, as the service's caller does.
 //! - `Session::close`, `close_rest`, `close_kept`: the callers of one service lie in a queue, each with its share of it, under the rule that it is one service
 //!   and that each of its callers is there once: still with its session, in the queue, or taken out by one session (`KeepsOrIsNew`). Who comes last takes all

@@ -8,7 +8,7 @@ use std::alloc::Global;
 use std::collections::LinkedList;
 use std::sync::Arc;
 
-/// A caller that is handed in, with its share of the service: who has all of them has all shares, so the service is nobody's else. Where the queue
+/// A caller that is handed in, with its share of the service: who has all of them has all shares, so the service is nobody else's. Where the queue
 /// is opened, a share goes through it alone, by which the first pass learns the service.
 #[derive(Drop)]
 pub struct HandedIn<O: Object> {
@@ -27,8 +27,8 @@ pub struct Knows<O: Object> {
 }
 
 /// The rule: what lies in the queue are callers of one service, each with its share of it, every pass knows which service that is, and each caller of
-/// the service is there once: a pass is to hand it in, it lies in the queue, or one pass took it out. What was taken out is what was handed in, with all that a
-/// caller made and was answered.
+/// the service is there once: a pass is to hand it in, it lies in the queue, or one pass took it out. What was handed in, with all that a caller made
+/// and was answered, is what was taken out or still lies in the queue.
 pub struct OfOneService;
 
 impl<O: Object> Protocol<HandedIn<O>, Knows<O>> for OfOneService {
@@ -63,7 +63,7 @@ impl<O: Object> Outcome<HandedIn<O>, Knows<O>> for Starts {
     ghost then = { λ v x w. w ≡ pass_of_all v.offered };
 }
 
-/// A pass is made for the first caller that another pass is to hand in; that pass is to hand in one caller less.
+/// A pass is made for the first caller that another pass is to hand in; the other pass is to hand in one caller less from then on.
 pub(crate) struct Parts;
 
 impl<O: Object> Split<Knows<O>> for Parts {

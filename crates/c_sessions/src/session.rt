@@ -17,8 +17,8 @@ use cx_service::{Handed, Service};
 use std::alloc::Global;
 use std::sync::Arc;
 
-/// A share of a service, and what stands of one of its callers. Between calls something always does. The place is the greatest that the session
-/// was answered at or caught up with, 0 at first.
+/// A share of a service, with one of its callers in whichever state that is: `handed` is `None` only within a call. The place is the greatest that the
+/// session was answered at or caught up with, 0 at first.
 #[derive(Drop)]
 pub struct Session<O: Object> {
     pub(crate) service: Arc<Service<O>, Global>,
@@ -142,7 +142,7 @@ impl<O: Object> Session<O> {
 
 const fn goes_to_a_thread<T: Send>() {}
 
-/// A check by the compiler, which does nothing: a session may go to another thread where its object may, and may be shared by threads.
+/// A check by the compiler, which does nothing: a session may go to another thread where its object may go to another thread and be shared by threads.
 pub const fn sessions_cross_threads<O: Object + Send + Sync>() {
     goes_to_a_thread::<Session<O>>();
 }

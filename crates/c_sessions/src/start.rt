@@ -19,14 +19,14 @@ use std::sync::Arc;
 /// Why no sessions are opened.
 #[derive(Clone, Copy, Debug, PartialEq, Eq, Drop)]
 pub enum OpenFault {
-    /// The service is not started.
+    /// The service is not started, or memory ran out for its sessions.
     Start(StartFault),
     /// The new queue of the sessions did not take its first entry, or did not give it back. Nobody else has it, and no run is known to answer this.
     InTheWay,
 }
 
-/// The sessions of a new service of this many callers over the object as it opens, of caller 0 first. All memory is taken here. `Err`
-/// says why there are none, as for `open_from`, and drops the object.
+/// The sessions of a new service of this many callers over the object as it opens, of caller 0 first. All memory is taken here but for what the
+/// closing of the service takes. `Err` says why there are none, as for `open_from`, and drops the object.
 ///
 /// From `crates/githoppu_c/src/open.rt`:
 /// ```rattle

@@ -58,7 +58,7 @@ reads_more (Entry t ∷ calls) read = reads_more calls read
 reads_more (Look x ∷ calls) read = ap (λ (l : List SeenRead). x ∷ l) (reads_more calls read)
 
 module _ {O : Type 0} (r : Running O) (table : TableId) (before after : Client) where
-  -- an entry was told
+  -- a client that was told an entry made that call more
   abbrev pub updated : (op : List ℕ) (floor caller : ℕ) (asked : Seated) (answer : Answer) → before.floor ≤ floor → before.caught_up ≤ floor → TellsEntry r table op floor asked before.lent after.lent caller answer → IsSameClient before after
       → after.caught_up ≡ before.caught_up → after.answers.items ≡ before.answers.items ++ Updated caller answer ∷ [] → after.floor ≡ answer.ticket + 1 → HasUpdated r table op before after answer
   updated op least caller asked answer above above_seen tells same seen answers floor =
@@ -97,7 +97,7 @@ module _ {O : Type 0} (r : Running O) (table : TableId) (before after : Client) 
     answers = ap (λ (y : SeenRead). y.before) s.is;
   }
 
-  -- nothing was told
+  -- a client that was told and shown nothing more has the calls that it had
   pub no_more : IsLentTo r table after.lent → TellsSame before.lent after.lent → IsSameClient before after → after.answers.items ≡ before.answers.items → after.floor ≡ before.floor → after.caught_up ≡ before.caught_up → HasNoMore r table before after
   no_more lent tells same answers floor seen = record {
     client = lent;
@@ -114,13 +114,13 @@ module _ {O : Type 0} (r : Running O) (table : TableId) (before after : Client) 
     };
   }
 
-  -- nothing was told to a client of which what was lent changed, and the room of its answers
+  -- a client of which no more than what was lent to it and the room of its answers changed
   module _ (beside : after ≡ record before { answers = after.answers; lent = after.lent }) (items : after.answers.items ≡ before.answers.items) where
     none_more : IsLentTo r table after.lent → TellsSame before.lent after.lent → HasNoMore r table before after
     none_more lent tells =
         no_more lent tells (record { number = ap (λ (c : Client). c.number) beside; limits = tells.limits; closing = ap (λ (c : Client). c.closing) beside }) items (ap (λ (c : Client). c.floor) beside) (ap (λ (c : Client). c.caught_up) beside)
 
-    -- since no cell is idle, since there is no further ticket, and since its caller is stopped
+    -- the client was answered nothing: no cell was idle, there was no further ticket, or its caller is stopped
     pub full_more : (way : Seated → Seated → Type 0) (note : FullNote) → KeepsFull r table way before.lent after.lent note → HasNoMore r table before after × KeepsFull r table way before.lent after.lent note
     full_more way note full = (none_more full.lent full.tells, full)
 
@@ -130,7 +130,7 @@ module _ {O : Type 0} (r : Running O) (table : TableId) (before after : Client) 
     pub stopped_more : (halts : Seated → StoppedSeat → Type 0) (linked : Option ℕ) → KeepsStopped r table halts before.lent after.lent linked → HasNoMore r table before after × KeepsStopped r table halts before.lent after.lent linked
     stopped_more halts linked stopped = (none_more stopped.lent stopped.tells, stopped)
 
-  -- a caller was given back
+  -- a client whose caller was given back with no call more has the calls that it had
   pub given_more : after ≡ record before { caught_up = after.caught_up; lent = after.lent } → IsGivenBack r table before.lent after.lent → HasItsCalls r table before after
   given_more beside given = (let answers = ap (λ (c : Client). c.answers.items) beside in let floor = ap (λ (c : Client). c.floor) beside in record {
     client = given.lent;
@@ -147,7 +147,7 @@ module _ {O : Type 0} (r : Running O) (table : TableId) (before after : Client) 
     };
   })
 
-  -- a read was shown
+  -- a client that was shown a read made that call more
   abbrev pub read_more : (op : List ℕ) (floor : ℕ) (caller : Seated) (seen : Seen) → before.floor ≤ floor → before.caught_up ≤ floor → ShowsRead r table op floor caller before.lent after.lent seen → IsSameClient before after
       → after.caught_up ≡ before.caught_up → after.answers.items ≡ before.answers.items ++ Read seen ∷ [] → after.floor ≡ seen.place → HasRead r table op before after seen
   read_more op least caller seen above above_seen shows same same_seen answers floor =

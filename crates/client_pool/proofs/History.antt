@@ -51,7 +51,7 @@ call_item n (x ∷ own) (a ∷ answers) zero t at =
     (sym (ap (λ (u : AnsweredCall). u.caller) same), ap (λ (u : AnsweredCall). Some u.entry) same, ap (λ (u : AnsweredCall). Some u.answer) same)
 call_item n (x ∷ own) (a ∷ answers) (suc i) t at = call_item n own answers i t at
 
--- the own entries of a caller are its own
+-- each entry in the list of a caller's own entries is that caller's, where the first of the history is and those after it are
 own_first : (caller ticket : ℕ) (e : HistoryEntry) (rest : List HistoryEntry) (i : ℕ) (x : Linked) → e.caller ≡ caller → ((k : ℕ) → slice_get (own_of caller (ticket + 1) rest) k ≡ Some x → x.entry.caller ≡ caller)
     → slice_get (record { ticket = ticket; entry = e } ∷ own_of caller (ticket + 1) rest) i ≡ Some x → x.entry.caller ≡ caller
 own_first caller ticket e rest zero x is next at = sym (ap (λ (y : Linked). y.entry.caller) (same_Some _ x at)) ∙ is
@@ -73,7 +73,7 @@ module _ {O : Type 0} (r : Running O) (instance : Instance) (handed : List Hande
   abbrev history : List HistoryEntry
   history = leaves.state.history
 
-  -- what the state says of the caller that was handed in at a place
+  -- what the closing leaves of the caller that was handed in at the index `i`
   pub record Behind (i : ℕ) (g : Handed) : Type 0 where
     pub local : Local
     pub there : slice_get leaves.whole i ≡ Some local

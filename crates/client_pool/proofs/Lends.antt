@@ -83,12 +83,12 @@ module _ {O : Type 0} (r : Running O) where
   abbrev pub refused_on : (tries : ℕ) (x y z : Seated) → StaysIdle r x y → ReadPending r tries y z → StaysIdle r x z
   refused_on tries x y z idle a = stays_on x y z idle (looked y z [] a.caller a.keeps (still y z a.reads))
 
-  -- no reads
+  -- two lists of reads that make an empty one are empty
   none_both : (xs ys : List SeenRead) → xs ++ ys ≡ [] → (xs ≡ []) × (ys ≡ [])
   none_both [] ys none = (refl, none)
   none_both (x ∷ xs) ys none = (let long = ap (λ (l : List SeenRead). length l) none in absurd (omega (arith, long)))
 
-  -- a caller that began a call, and is asked then
+  -- a caller of the service comes from itself (`ComesFrom`)
   pub comes_first : (x : Seated) → IsCallerOf r x → ComesFrom r x x
   comes_first x is = record { idle = stays x is; scans = omega arith; met = omega arith; front = omega arith; steps = λ _. omega arith }
 
@@ -277,7 +277,7 @@ module _ {O : Type 0} (r : Running O) where
     pub tells_on : (a b c : Lent) → TellsSame a b → TellsSame b c → TellsSame a c
     tells_on a b c s t = record { limits = t.limits ∙ s.limits; told_calls = t.told_calls ∙ s.told_calls; shown = t.shown ∙ s.shown; returned = t.returned ∙ s.returned }
 
-    -- a caller is kept with whatever it holds
+    -- the client keeps the caller that was out, and the pass is as it was
     module _ (before mid after : Lent) (tells : TellsSame before mid) (first : Seated) (begins : IsFirstCaller before.kept (view mid.pass) first) (same : after.pass ≡ mid.pass) where
       w : view after.pass ≡ view mid.pass
       w = ap (λ p. view p) same
@@ -357,7 +357,7 @@ module _ {O : Type 0} (r : Running O) where
       pub caught_stopped : (s : StoppedSeat) → IsOut r table mid first → CatchUpHalted r first s → after.kept ≡ Some (Stopped s) → KeepsStopped r table (CatchUpHalted r) before after s.linked
       caught_stopped s out halted keeps = stopped_kept (CatchUpHalted r) [] first first s (comes_first first out.holds.idle.caller) halted out (inr (caught_halted [] first s halted)) keeps
 
-    -- one way to be stopped is another
+    -- a caller that is stopped in one way is kept as one stopped in another, where whatever is stopped in the one is stopped in the other
     pub stopped_so : (halts more : Seated → StoppedSeat → Type 0) → ((x : Seated) (s : StoppedSeat) → halts x s → more x s) → (before after : Lent) (linked : Option ℕ) → KeepsStopped r table halts before after linked → KeepsStopped r table more before after linked
     stopped_so halts more so before after linked k = record { lent = k.lent; tells = k.tells; first = k.first; begins = k.begins; asked = k.asked; since = k.since; stopped = k.stopped; halted = so k.asked k.stopped k.halted; keeps = k.keeps; is = k.is }
 
@@ -377,11 +377,11 @@ module _ {O : Type 0} (r : Running O) where
       (are_shown r out.holds.taken y [] (view lent.pass) out.holds.held (stays_on out.holds.taken x y out.holds.idle (caught_on x y is keeps))).0,
     )
 
-    -- a caller that met refusals beside the queue before it entered it
+    -- a caller that met refusals beside the queue before its read entered the queue is still out
     queued_out : (op reply : List ℕ) (lent : Lent) (x : Seated) (u : Updated) → IsOut r table lent x → (q : ReadQueues r op reply x u) → IsOut r table lent q.refused
     queued_out op reply lent x u out q = out_on lent x q.refused out (refused_on 8 x x q.refused (stays x out.holds.idle.caller) q.pending)
 
-    -- what is left of it may be settled
+    -- the caller that is out with an update may be given back once the update is answered
     pub update_settles : (op reply : List ℕ) (lent : Lent) (x : Seated) → IsOut r table lent x → (u : Updated) → Updates r op reply x u → MaySettle r lent u
     update_settles op reply lent x out (UpdatedDone y ticket) is = done_back op lent x y (answer_with ticket reply) out is
     update_settles op reply lent x out (UpdatedFull y note) is = tt
@@ -395,7 +395,7 @@ module _ {O : Type 0} (r : Running O) where
     read_settles op reply lent x out (UpdatedWorn y) is = tt
     read_settles op reply lent x out (UpdatedHalted s) is = tt
 
-    -- it was given back, and its entry told
+    -- the results of a call that entered the queue
     module _ (op reply : List ℕ) (floor : ℕ) (before mid after : Lent) where
       -- the caller of an answered update was given back, and its entry was told to the client
       tells_entry : (x y : Seated) (caller : ℕ) (answer : Answer) → TellsSame before mid → IsOut r table mid x → floor ≤ x.known.local.front → UpdateDone r op x y answer → caller ≡ y.known.local.number → y.known.local.front ≤ 2 ^ 40 → GivesBack table mid after y
@@ -476,7 +476,7 @@ module _ {O : Type 0} (r : Running O) where
             subst (KeepsStopped r table (HaltsClientUpdate r op) before after) s.2
             (stopped_kept before mid after begun.tells begun.first begun.is s.3.0 (HaltsClientUpdate r op) op x x s.0 begun.since (inr halted) begun.out (inl halted) s.3.1)
 
-        -- and a read
+        -- what a read comes to that entered the queue and is not answered
         came_to : (u : Updated) (a : Seated) → ComesFrom r x a → (q : ReadQueues r op reply a u) → IsReadRefused r begun.first q.refused
         came_to u a since q = record { looked = a; since = comes_on begun.first x a begun.since since; refused = q.pending }
 
@@ -505,7 +505,7 @@ module _ {O : Type 0} (r : Running O) where
             subst (KeepsStopped r table (HaltsClientRead r op) before after) s.2
             (⊎_elim (λ b. kept l.asked s.0 since (inr stops) out (inr b.0) s.3.1) (λ q. kept q.refused s.0 since (inr stops) (queued_out op [] mid l.asked h out q) (inl q.entered) s.3.1) stops.lists)
 
-    -- what was shown and given back since a caller was taken out, was so since the call began
+    -- what was shown and given back since a caller was taken out was shown and given back since the call began
     module _ (before mid after : Lent) (same : TellsSame before mid) where
       unfoldable pub read_since : (op : List ℕ) (floor : ℕ) (caller : Seated) (seen : Seen) → ShowsRead r table op floor caller mid after seen → ShowsRead r table op floor caller before after seen
       read_since op floor caller seen t = record {

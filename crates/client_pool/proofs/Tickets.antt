@@ -17,7 +17,7 @@ use Rattle.seat_pool.specs.declared.hand.AnsweredCall.{AnsweredCall}
 use Rattle.seat_pool.proofs.Orderings.{one_else}
 use Rattle.client_pool.proofs.Weights.{both_of, one_self, single}
 
--- how many of a caller's entries have a ticket
+-- how many of a caller's own entries have the ticket `k`
 abbrev owns : ℕ → List Linked → ℕ
 owns k own = total_weight (λ (x : Linked). one_at k x.ticket) own
 

@@ -7,7 +7,7 @@ use Rattle.seat_pool.specs.Gathering.{one_at}
 use Rattle.seat_pool.specs.Pooling.{total_weight}
 use Rattle.seat_pool.specs.declared.hand.AnsweredCall.{AnsweredCall}
 
--- the second, where the first is something
+-- the second number, where the first is not 0, and else 0
 abbrev pub both_of : ℕ → ℕ → ℕ
 both_of zero b = 0
 both_of (suc a) b = b

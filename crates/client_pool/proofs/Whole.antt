@@ -112,7 +112,7 @@ module _ {O : Type 0} (r : Running O) where
   idle_at (h ∷ handed) zero g of idle at = subst (λ (x : Handed). IsHandedOf r x × (busy x ≡ 0)) (same_Some h g at) (All-head (IsHandedOf r) h handed of, omega (arith, idle))
   idle_at (h ∷ handed) (suc i) g of idle at = idle_at handed i g (All-tail (IsHandedOf r) h handed of) (omega (arith, idle)) at
 
-  -- each entry of the history is a call of a caller
+  -- where all callers are idle, each entry of the history is one of an answered call of theirs
   has_call : (place : ℕ) (history : List HistoryEntry) (handed : List Handed) → IsHistory place history (locals_of (seats_of handed)) → All (IsHandedOf r) handed → total_weight busy handed ≡ 0
       → (ticket : ℕ) → place ≤ ticket → ticket < place + length history → 1 ≤ total_weight (handed_calls (λ (t : AnsweredCall). one_at ticket t.entry.ticket)) handed
   has_call place history handed merged of idle ticket from below =

@@ -105,8 +105,8 @@ pub record HasUpdated {O : Type 0} (r : Running O) (table : TableId) (op : List 
   pub is : (call.answer ≡ answer) × (call.entry.ticket ≡ answer.ticket) × (call.entry.entry.op ≡ op)
   pub made : HasMade r table before after (Entry call)
 
--- The entry and its answer are of the caller that was asked, the one that the client kept or else one out of the queue, which entered the queue in this way and
--- was answered so in this call, and was given back so.
+-- The entry and its answer are of the caller that was asked, the one that the client kept or else one out of the queue. The caller entered the queue in
+-- this way, got this answer in this call, and was given back as it was then.
 pub record IsClientAnswered {O : Type 0} (r : Running O) (way : Seated → Seated → Type 0) (op : List ℕ) (before after : Lent) (call : AnsweredCall) : Type 0 where
   pub first : Seated
   pub asked : Seated
@@ -122,8 +122,8 @@ pub record HasRead {O : Type 0} (r : Running O) (table : TableId) (op : List ℕ
   pub is : (read.place ≡ seen.place) × (read.op ≡ op) × (read.reply ≡ seen.reply)
   pub made : HasMade r table before after (Look read)
 
--- The read is of the caller that was asked, the one that the client kept or else one out of the queue, which was answered so in this call, after fewer than eight
--- refusals, and was given back so.
+-- The read is of the caller that was asked, the one that the client kept or else one out of the queue. The caller got this answer in this call, after
+-- fewer than eight refusals, and was given back as it was then.
 pub record IsReadShown {O : Type 0} (r : Running O) (op : List ℕ) (before after : Lent) (read : SeenRead) : Type 0 where
   pub first : Seated
   pub asked : Seated
@@ -151,8 +151,8 @@ pub record HasItsCalls {O : Type 0} (r : Running O) (table : TableId) (before af
   pub floor : after.floor ≡ before.floor
   pub calls : (calls : List Call) → HasCalls r before calls → HasCalls r after calls
 
--- The client caught up with a place: a caller had seen it, the one that the client kept or else one out of the queue, which was given back so, and no later answer
--- of the client holds below it (`HasMade.from`).
+-- The client caught up with a place: a caller had seen the place, the one that the client kept or else one out of the queue, and was given back. No
+-- later answer of the client holds below the place (`HasMade.from`).
 pub record HasCaughtUp {O : Type 0} (r : Running O) (table : TableId) (place : ℕ) (before after : Client) : Type 0 where
   pub made : HasItsCalls r table before after
   pub seen : after.caught_up ≡ max before.caught_up place
@@ -161,7 +161,8 @@ pub record HasCaughtUp {O : Type 0} (r : Running O) (table : TableId) (place : �
   pub returns : ReturnsFirst before.lent after.lent asked now
   pub caught : CatchUpCaught r place asked now
 
--- The current place was found below the one asked for, by the caller that the client kept or else one out of the queue, which was given back so: this one.
+-- The current place, `found`, was below the one asked for. The caller that found it is the one that the client kept or else one out of the queue, and
+-- was given back.
 pub record IsClientBehind {O : Type 0} (r : Running O) (table : TableId) (place found : ℕ) (before after : Client) : Type 0 where
   pub made : HasItsCalls r table before after
   pub seen : after.caught_up ≡ before.caught_up

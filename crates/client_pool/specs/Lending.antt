@@ -39,7 +39,7 @@ pub record IsPart {O : Type 0} (r : Running O) (table : TableId) (lent : Lent) :
   pub parts : (view lent.pass).parts ≡ 1
   pub placed : (view lent.pass).placed ≡ []
 
--- a pass holds this caller, which is in no call and was answered nothing since it was taken
+-- a pass holds this caller, which is in no call and was answered nothing but reads since it was taken
 pub record HoldsIdle {O : Type 0} (r : Running O) (v : LenderPass) (now : Seated) : Type 0 where
   pub taken : Seated
   pub held : v.held ≡ taken ∷ []
@@ -98,8 +98,8 @@ pub record Returns (before after : Lent) (back : Seated) : Type 0 where
   pub held : (view before.pass).held ≡ taken ∷ []
   pub returned : (view after.pass).returned ≡ (view before.pass).returned ++ record { taken = taken; back = back } ∷ []
 
--- A call gave one caller back, and no other, which was so then. It is the one that the call began with, and was that then: the one that its client kept, or
--- else one that the call took out of the queue.
+-- A call gave one caller back, as `back`, and no other. `first` is the caller that the call began with, as it was then: the one that its client kept,
+-- or else the one that the call took out of the queue and gave back.
 pub record ReturnsFirst (before after : Lent) (first back : Seated) : Type 0 where
   pub kept : IsKeptCaller before.kept first
   pub taken : Seated
@@ -153,8 +153,8 @@ pub record ShowsRead {O : Type 0} (r : Running O) (table : TableId) (op : List �
   pub tells : (view after.pass).told_calls ≡ (view before.pass).told_calls
   pub shows : (h : SeenRead → ℕ) → total_weight h (view before.pass).shown + h read ≤ total_weight h (view after.pass).shown
 
--- No cell of the caller is idle that was asked, as it was when it entered the queue, and the client keeps it. The caller is the one that the call began
--- with, and came there in this way.
+-- No cell of the caller that was asked is idle, and the client keeps the caller. `asked` is the caller as it was when the operation was to enter the
+-- queue: the one that the call began with, `first`, which reached that state in this way.
 pub record KeepsFull {O : Type 0} (r : Running O) (table : TableId) (way : Seated → Seated → Type 0) (before after : Lent) (note : FullNote) : Type 0 where
   pub lent : IsLentTo r table after
   pub tells : TellsSame before after

@@ -102,9 +102,9 @@ lents_of clients = map (λ (c : Client). c.lent) clients
 abbrev pub former_of : Client → FormerClient
 former_of c = record { number = c.number; floor = c.floor; answers = c.answers }
 
--- What a closed pool leaves of its service: all callers were handed to its closing, each once, with the account of the clients' calls. Whatever calls the
--- clients made, one list each, are the history's, which is a linearization of them by the order of all callers' steps; and where no client keeps a stopped caller, they are all that it has. No caller that a client keeps
--- has its front past the history.
+-- What a closed pool leaves of its service: all callers were handed to its closing, each once, with the account of the clients' calls. Whatever
+-- calls the clients made, one list each, are the history's, which is a linearization of all callers' calls by the order of their steps; and where no
+-- client keeps a stopped caller, the clients' entries are all that the history has. No idle caller that a client keeps has its front past the history.
 pub record IsClosed {O : Type 0} (r : Running O) (instance : Instance) (clients : List Client) (remains : Remains) : Type 0 where
   pub handed : List Handed
   pub leaves : ClosingWitness r instance (seats_of handed) remains

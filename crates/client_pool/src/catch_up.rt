@@ -43,8 +43,8 @@ impl<O: Object> Pool<O> {
     /// Has a client that was never answered `Stopped` catch up with a place that it got in whatever way: `Client::place` of another client, or of a
     /// caller's answers the ticket plus 1 of an update and the place of a read. From `Caught` on no answer to the client holds below `place`, by
     /// whichever caller it is made. `Behind` comes only where the current place was found below `place`, which is where nobody was answered at it;
-    /// nothing is changed then. The call waits for a caller. `Stopped` comes only where the caller's step limit was reached: the client keeps that
-    /// caller, and makes no further call.
+    /// the client's place is as before then. After both the client keeps no caller. The call waits for a caller. `Stopped` comes only where the
+    /// caller's step limit was reached: the client keeps that caller, and makes no further call.
     pub fn catch_up<R: Wait>(&self, rt: &R, client: &mut Client, place: u64) -> PooledCatchUp
         requires { MayCall O.only_reads self.now client.old }
         ensures { ClientCatchesUp self.now.service self.now.line.table.shared.table_id place client.old client.new result }

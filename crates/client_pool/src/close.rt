@@ -48,9 +48,9 @@ fn part_clients(
 impl<O: Object> Pool<O> {
     /// Closes the pool and its service, given all its clients, of client 0 first. The history that is left is a linearization of the calls, by the
     /// order of all callers' steps. All callers are gathered, those in the queue and those that clients keep, each once
-    /// and in whatever state it is. The clients' answered calls are those that the callers show as answered, each once, but for at most one of each
-    /// stopped caller, whose answer no client got. `Err` comes only where memory runs out, and hands back the service, all its callers, of caller 0
-    /// first, and what the clients were answered.
+    /// and in whatever state it is. The clients' answered entries are those that the callers show as answered, each once, but for at most one of each
+    /// stopped caller, whose answer no client got; the clients' reads are among the callers'. `Err` comes only where memory runs out, and hands back
+    /// the service, all its callers, of caller 0 first, and what the clients were answered.
     pub fn close<R: Wait>(
         self,
         rt: &R,

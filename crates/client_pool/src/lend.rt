@@ -40,7 +40,7 @@ pub(crate) enum EntryOutcome {
     Full(FullNote),
     /// There is no further ticket.
     Worn,
-    /// The caller's step limit was reached, with this linked entry that no call has answered.
+    /// The caller's step limit was reached: the ticket of its linked entry that no call has answered, if there is one.
     Halted(Option<u64>),
 }
 

@@ -134,7 +134,7 @@ fn new_clients<O: Object>(
 
 impl<O: Object> Pool<O> {
     /// Opens a pool of all callers of a service, of caller 0 first, none of which has linked an entry, and makes `clients` clients that share them, 1 to 64.
-    /// The probe is an operation that only reads. `Err` comes only where memory runs out, and hands back what was given.
+    /// The probe is an operation that only reads. `Err` comes only where memory runs out, and hands back the service and its callers.
     ///
     /// The probe reads counter 0. From `crates/life_tests/src/pool_starts.rt`:
     /// ```rattle

@@ -39,7 +39,8 @@ pub enum Pooled {
     Full(FullNote),
     /// There is no further ticket. The client keeps its caller.
     Worn,
-    /// The caller's step limit was reached: the ticket of its linked entry that no call has answered. The client keeps it, and makes no further call.
+    /// The caller's step limit was reached: the ticket of its linked entry that no call has answered, if there is one. The client keeps the caller, and
+    /// makes no further call.
     Stopped { linked: Option<u64> },
     /// There is no memory for the answer, and nothing was done.
     Memory,
@@ -52,7 +53,7 @@ pub enum PooledCatchUp {
     Caught,
     /// The current place, given here, is below the place asked for.
     Behind(u64),
-    /// The caller's step limit was reached. The client keeps it, and makes no further call.
+    /// The caller's step limit was reached. The client keeps the caller, and makes no further call.
     Stopped,
 }
 
@@ -67,7 +68,8 @@ pub enum PooledRead {
     Full(FullNote),
     /// There is no further ticket. The client keeps its caller.
     Worn,
-    /// The caller's step limit was reached: the ticket of its linked entry that no call has answered. The client keeps it, and makes no further call.
+    /// The caller's step limit was reached: the ticket of its linked entry that no call has answered, if there is one. The client keeps the caller, and
+    /// makes no further call.
     Stopped { linked: Option<u64> },
     /// There is no memory for the answer, and nothing was done.
     Memory,

@@ -63,8 +63,8 @@ fn read_beside<O: Object, R: Wait>(
 
 impl<O: Object> Pool<O> {
     /// Answers an operation that only reads for a client never answered `Stopped`, by a caller that has seen all that the client was answered before or
-    /// caught up with: beside the queue, or as an entry of it. The reply is written into the client's buffer as in `update`. A read whose place is below
-    /// that is made again. It waits as `update` does, and `Full`, `Worn`, `Stopped` and `Memory` are as there.
+    /// caught up with: beside the queue, or as an entry of it. The reply is written into `reply` as in `update`. A read whose place is below the
+    /// client's place is made again. The call waits as `update` does, and `Full`, `Worn`, `Stopped` and `Memory` are as there.
     pub fn read<R: Wait>(
         &self,
         rt: &R,

@@ -19,7 +19,7 @@ use Rattle.githoppu_c.specs.declared.content.AnyHandleState.{AnyHandleState}
 use Rattle.githoppu_c.specs.declared.content.HandleState.TheVariants.{Session as ContentSession}
 use Rattle.githoppu_c.proofs.InBoxes.{Boxed, as_boxes, value_of}
 
--- sessions of an object that is what C may call by this
+-- sessions of an object, each of which C may call as `any` makes it
 module _ {O : Type 0} (any : Session O → AnyHandleState) (replies : ReplyKind) (callable : (r : Running O) (s : Session O) → KeepsReplies replies r → IsOpenSessionOf r s → IsCallable (any s))
     (object : O) (lines count : ℕ) (base : Base → Type 0) (keeps : (b : Base) → base b → HoldsReplies (IsReplyOfKind replies) b.words) (sessions : List (Session O)) (of : AreSessionsOf object lines count base sessions) where
   abbrev pub are_opened : (wanted : ℕ) → lines ≡ wanted → MayOpen wanted count → (boxes : List Boxed) → map value_of boxes ≡ map any sessions → AreOpened any wanted count boxes

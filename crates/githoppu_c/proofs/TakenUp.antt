@@ -42,7 +42,7 @@ use Rattle.githoppu_c.specs.declared.content.HandleState.TheVariants.{Closed, Go
 use Rattle.githoppu_c.proofs.OtherBefore.{kept_with, leaves_of, opened_with, running_with, with_before}
 use Rattle.githoppu_c.proofs.Replies.{queues_give_replies, stores_give_replies}
 
--- Where the words are refused for want of memory alone, and the base that they say keeps replies, they are so with the replies looked at.
+-- Words that are refused for want of memory alone, and of which the base keeps replies, are refused for nothing else where the replies are looked at.
 pub memory_alone : (is : List ℕ → Type 0) (takes kept : Base → Type 0) (faulty : WordsFault → Type 0)
     → ((answer : Result Base WordsFault) → MatchResult answer takes faulty → MatchResult answer kept (λ fault. fault ≡ Image Memory))
     → ((base : Base) → takes base → HoldsReplies is base.words)
@@ -68,14 +68,14 @@ module _ (kind : ℕ) (words : List ℕ) (headed : IsHeaded words) (same : objec
       ]
   recovers_again taken faulty alone count code few (inr (inr (as_many, inr not))) = inr not
 
-  -- what became of a session is told
+  -- what became of a session is told, unless memory runs out
   pub tells_again : ((fault : WordsFault) → IsBaseFault words fault → fault ≡ Image Memory) → (session number_before number : ℕ) (reply_before reply : List ℕ) (code : ℤ) → session < 8
       → WritesOutcome words session number_before number reply_before reply code → (code ≡ pos 0) ⊎ (code ≡ pos 8)
   tells_again alone session number_before number reply_before reply code few (inl (outcome, is, are, done)) = inl done
   tells_again alone session number_before number reply_before reply code few (inr (inl (many, bad), n, r)) = absurd (omega (arith, many, few))
   tells_again alone session number_before number reply_before reply code few (inr (inr (small, (fault, of, is)), n, r)) = inr (is ∙ ap fault_code (alone fault of))
 
--- the faults of words with the head of a store, or of a queue
+-- words with the head of a store, or of a queue, that have no fault as such but want of memory have no other
 pub store_faults : (words : List ℕ) → IsHeaded words → object_kind_in words ≡ 1 → ((fault : WordsFault) → IsStoreFault words fault → fault ≡ Image Memory)
     → (fault : WordsFault) → IsBaseFault words fault → fault ≡ Image Memory
 store_faults words headed kind alone fault (inl head) = absurd (no_head_fault (object_kind_in words) words fault headed refl head)
@@ -92,7 +92,7 @@ queue_faults words headed kind alone fault (inr (head, inr (inr (three, of)))) =
 
 -- ---- words that are taken up, where the base that they say keeps replies
 
--- for an object of so many lines they are refused only where there is no memory, and what they say is kept
+-- words that are refused, for an object of as many lines as they say, only where memory runs out are taken up again, and the base is one that was kept
 module _ (words : List ℕ) (lines : ℕ) (there : lines_in words ≡ lines) (kept : Base → Type 0) where
   taken_up_again : (kind : ℕ) (headed : IsHeaded words) (same : object_kind_in words ≡ kind) (is : List ℕ → Type 0) (takes : ℕ → Base → Type 0) (faulty : ℕ → WordsFault → Type 0)
       → ((answer : Result Base WordsFault) → MatchResult answer (takes lines) (faulty lines) → MatchResult answer kept (λ fault. fault ≡ Image Memory))
@@ -242,7 +242,7 @@ module _ (choice : ℕ) (words : List ℕ) where
     program_comes_back law (Unclosed rest) back = tt
     program_comes_back law Gone back = tt
 
--- ---- and one that a session took
+-- ---- what an image that a session took comes to
 
 module _ (words : List ℕ) where
   store_taken : (r : Running DocStore) → IsTakenImage store_ghosts 1 words r → IsTakenStoreAgain r words

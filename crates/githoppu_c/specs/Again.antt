@@ -34,15 +34,15 @@ use Rattle.githoppu_c.specs.declared.content.AnyHandleState.TheVariants.{Documen
 use Rattle.githoppu_c.specs.declared.content.HandleState.{HandleState}
 use Rattle.githoppu_c.specs.declared.content.HandleState.TheVariants.{Closed, Session}
 
--- Words are taken up again. As many sessions as there may be are recovered from them, unless memory runs out or the sessions' new queue did not take its
--- first entry, and the outcome of each session is written, unless memory runs out. What is taken up holds what was kept.
+-- Words are taken up again. 1 to 8 sessions are recovered from them, unless memory runs out or the sessions' new queue did not take its first entry,
+-- and the outcome of each session is written, unless memory runs out. What is taken up holds what was kept.
 pub record IsTakenUpAgain (kind : ℕ) (taken : Base → Type 0) (faulty : WordsFault → Type 0) (kept : Base → Type 0) (words : List ℕ) : Type 0 where
   pub recovers : (count : ℕ) (code : ℤ) → AreFew count → Recovers kind taken faulty words count code → (code ≡ pos 0) ⊎ IsOpenCode code
   pub tells : (session number_before number : ℕ) (reply_before reply : List ℕ) (code : ℤ) → session < 8 →
       WritesOutcome words session number_before number reply_before reply code → (code ≡ pos 0) ⊎ (code ≡ pos 8)
   pub keeps : (base : Base) → taken base → kept base
 
--- words are recovered again, or refused: recovery alone, before a service opens
+-- words are taken up again as in `IsTakenUpAgain`; nothing is said of outcomes
 pub record IsRecoveredAgain (kind : ℕ) (taken : Base → Type 0) (faulty : WordsFault → Type 0) (kept : Base → Type 0) (words : List ℕ) : Type 0 where
   pub recovers : (count : ℕ) (code : ℤ) → AreFew count → Recovers kind taken faulty words count code → (code ≡ pos 0) ⊎ IsOpenCode code
   pub keeps : (base : Base) → taken base → kept base

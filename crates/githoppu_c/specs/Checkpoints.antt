@@ -28,12 +28,12 @@ taken_code OutOfTurn = pos 6
 abbrev pub checkpoint_words : {O : Type 0} → Running O → ℕ
 checkpoint_words r = region_words r.lines + 8
 
--- where an image was taken the words are one of an object of this kind, of what was taken
+-- where an image was taken, the words are an image of an object of this kind, of the region that was taken
 abbrev pub IsWrittenAs : {O : Type 0} → ℕ → Running O → List ℕ → SessionCheckpoint → List ℕ → Type 0
 IsWrittenAs kind r region (At place) words = IsWrittenOf kind r.callers r.lines place region words
 IsWrittenAs kind r region taken words = Unit {0}
 
--- a session took an image in 16 tries, or this was met
+-- a session was to take an image, in 16 tries, and this was the result
 pub record TookImage {O : Type 0} (o : Ghosts O) (kind : ℕ) (before after : Session O) (words : List ℕ) (code : ℤ) : Type 0 where
   pub region : List ℕ
   pub taken : SessionCheckpoint
@@ -54,7 +54,7 @@ ContentCheckpoints o kind words_before words needed code (ContentSession before)
 ContentCheckpoints o kind words_before words needed code (ContentSession before) after = ⊥
 ContentCheckpoints o kind words_before words needed code before after = (after ≡ before) × (words ≡ words_before) × (needed ≡ 0) × (code ≡ pos 6)
 
--- a session of any of the three objects took an image so, or was called out of turn
+-- taking an image had this result, by a session of any of the three objects or by what is no session
 abbrev pub CheckpointsSession : AnyHandleState → AnyHandleState → List ℕ → List ℕ → ℕ → ℤ → Type 0
 CheckpointsSession before after words_before words needed code =
     OfBoth (ContentCheckpoints store_ghosts 1 words_before words needed code) (ContentCheckpoints queue_ghosts 2 words_before words needed code)

@@ -21,7 +21,7 @@ use Rattle.githoppu_c.specs.declared.content.AnyHandleState.{AnyHandleState}
 use Rattle.githoppu_c.specs.declared.content.HandleState.{HandleState}
 use Rattle.githoppu_c.specs.declared.content.HandleState.TheVariants.{Session, Kept, Unclosed, Closed, Gone}
 
--- what C has afterwards
+-- what C has after a closing with this result
 abbrev pub content_left : {O : Type 0} → Closing O → HandleState O
 content_left (ClosingAgain session) = Session session
 content_left (ClosingClosed remains account) = Closed remains
@@ -30,8 +30,8 @@ content_left (Missing rest) = Unclosed rest
 content_left (Shared rest) = Unclosed rest
 content_left closing = Gone
 
--- A session was closed, as its closing has it. A service with all its callers is closed, or memory runs out again and all is as it was; what the last session
--- has is closed, as the closing of it has it. What is no session, or is closed, is as it was.
+-- A session was closed, as its closing has it. A service with all its callers is closed, or memory runs out again and all is as it was; what the last
+-- session has is closed, as the closing of it has it. What is closed already, or gone, was called out of turn, and is as it was.
 abbrev pub ContentCloses : {O : Type 0} → Ghosts O → ℤ → HandleState O → HandleState O → Type 0
 ContentCloses {O = O} o code (Session session) after =
     (closing : Closing O) × Closes o.line_count o.lawful o.step o.only_reads session closing × (after ≡ content_left closing) × (code ≡ closing_code closing)
@@ -44,7 +44,7 @@ ContentCloses {O = O} o code (Unclosed rest) after =
     × (after ≡ content_left closing) × (code ≡ closing_code closing)
 ContentCloses o code before after = (after ≡ before) × (code ≡ pos 6)
 
--- what C has of any of the three objects was closed so
+-- what C has, of any of the three objects, was closed, with this code
 abbrev pub ClosesAs : AnyHandleState → AnyHandleState → ℤ → Type 0
 ClosesAs before after code = OfBoth (ContentCloses store_ghosts code) (ContentCloses queue_ghosts code) (ContentCloses program_ghosts code) before after
 

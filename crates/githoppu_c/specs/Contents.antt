@@ -30,13 +30,13 @@ use Rattle.githoppu_c.specs.declared.content.AnyHandleState.TheVariants.{Documen
 use Rattle.githoppu_c.specs.declared.content.HandleState.{HandleState}
 use Rattle.githoppu_c.specs.declared.content.HandleState.TheVariants.{Session, Kept, Unclosed, Closed, Gone}
 
--- a content of any object: of each of the three this holds
+-- of a content of any object: the one of these three properties holds that is for its object
 abbrev pub OfAny : (HandleState DocStore → Type 0) → (HandleState Fifo → Type 0) → (HandleState ProgramObject → Type 0) → AnyHandleState → Type 0
 OfAny documents queue program (Documents content) = documents content
 OfAny documents queue program (Queue content) = queue content
 OfAny documents queue program (Program content) = program content
 
--- two contents of one object: of each of the three this holds
+-- of two contents of one object: the one of these three relations holds that is for their object
 abbrev pub OfBoth : (HandleState DocStore → HandleState DocStore → Type 0) → (HandleState Fifo → HandleState Fifo → Type 0)
     → (HandleState ProgramObject → HandleState ProgramObject → Type 0) → AnyHandleState → AnyHandleState → Type 0
 OfBoth documents queue program (Documents before) (Documents after) = documents before after
@@ -48,8 +48,8 @@ OfBoth documents queue program before after = ⊥
 abbrev pub KeepsReplies : {O : Type 0} → ReplyKind → Running O → Type 0
 KeepsReplies replies r = HoldsReplies (IsReplyOfKind replies) r.base.words
 
--- What C may call: an open session, a service with all its callers that is still to be closed, or with those that the last session found, and what a
--- closed one left. The service was opened with results that keep replies.
+-- What C may call: an open session, a service with all its callers that is still to be closed, or with those that the last session found, what a
+-- closed one left, or nothing any more. The service was opened with results that keep replies.
 abbrev pub IsContentCallable : {O : Type 0} → Ghosts O → ReplyKind → HandleState O → Type 0
 IsContentCallable o replies (Session session) = IsSessionOpen session × KeepsReplies replies (arc_value session.service)
 IsContentCallable o replies (Kept kept) = AreSeats kept.service (seats_of kept.callers.items) × KeepsReplies replies kept.service
@@ -83,7 +83,7 @@ queue_session session = Queue (Session session)
 abbrev pub program_session : SessionOf ProgramObject → AnyHandleState
 program_session session = Program (Session session)
 
--- a session of this service, of which C has this
+-- what C has is an open session of this service
 pub record IsSessionIn {O : Type 0} (any : SessionOf O → AnyHandleState) (r : Running O) (content : AnyHandleState) : Type 0 where
   pub session : SessionOf O
   pub of : IsOpenSessionOf r session
@@ -111,7 +111,8 @@ pub record MayOpen (lines count : ℕ) : Type 0 where
   pub some : 1 ≤ count
   pub few : count ≤ 8
 
--- why it is not opened, as a number: the sizes are wrong, or they are right and memory ran out, or the sessions' new queue did not take its first entry
+-- why no sessions are opened, as a number: the sizes are wrong; or they are right, and memory ran out, or the sessions' new queue did not take its
+-- first entry
 abbrev pub Refuses : ℕ → ℕ → ℤ → Type 0
 Refuses lines count code = ((¬ MayOpen lines count) × (code ≡ pos 7)) ⊎ (MayOpen lines count × IsOpenCode code)
 

@@ -60,7 +60,7 @@ IsProgramFault version old words =
     IsFaultOr IsProgramReply (IsTakenUp version (IsProgramImage (lines_in words) version) (old (lines_in words)) words)
     (IsWordsFault version (IsProgramImage (lines_in words) version) (old (lines_in words)) words)
 
--- what the object of this one's program has as its old format that takes over images with this fingerprint, or none, in this many lines
+-- the old format, in this many lines, of an object of the program of `o` that takes over images with the fingerprint `before`, or none
 abbrev pub old_in_lines : ProgramObject → Option ℕ → ℕ → OldFormat
 old_in_lines o before lines = old_of (instructions_of o.program) (program_words o.program) lines o.fuel o.version before
 

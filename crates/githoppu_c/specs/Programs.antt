@@ -32,7 +32,7 @@ pub record IsObjectOf (words : List ℕ) (instructions fuel lines : ℕ) (before
   pub before_is : o.before ≡ before
   pub version_is : o.version ≡ fingerprint words instructions fuel
 
--- why there is none, as a number: an instruction is at fault, and none before it, or memory ran out
+-- why there is no program, as a number: the words have a first fault, or memory ran out
 abbrev pub RefusesProgram : List ℕ → ℕ → ℤ → Type 0
 RefusesProgram words instructions code = (((fault : ProgramFault) × IsFirstProgramFault words instructions fault) × (code ≡ pos 25)) ⊎ (code ≡ pos 8)
 

@@ -12,7 +12,8 @@ use recovery::ImageFault;
 pub const DONE: i32 = 0;
 /// An operation is linked and not answered yet.
 pub const PENDING: i32 = 1;
-/// Others were in the way, and nothing is linked.
+/// Others were in the way: a call linked nothing, and a closing or an image is to be asked for again. Of an opening or a recovery: the sessions'
+/// new queue did not take its first entry.
 pub const AGAIN: i32 = 2;
 /// Another session needs the entries in all cells of this one.
 pub const FULL: i32 = 3;
@@ -22,7 +23,7 @@ pub const WORN: i32 = 4;
 pub const STOPPED: i32 = 5;
 /// A call that the state of what C holds does not take.
 pub const OUT_OF_TURN: i32 = 6;
-/// The lines, the sessions or the words are not as many as there may be.
+/// The lines, the sessions or the words are not as many as there may be, a session's number is above 7, or the fuel is above 2^20.
 pub const BAD_SIZE: i32 = 7;
 /// Out of memory.
 pub const NO_MEMORY: i32 = 8;
@@ -42,7 +43,7 @@ pub const IMAGE_ROOT: i32 = 16;
 pub const IMAGE_VERSION: i32 = 17;
 /// The place of the root's replica is not the root's.
 pub const IMAGE_PLACE: i32 = 18;
-/// The results or the object are not lawful.
+/// The results or the object are not lawful, or a result keeps no reply of such an object.
 pub const IMAGE_BODY: i32 = 19;
 /// A result has a number above the place.
 pub const IMAGE_NUMBERS: i32 = 20;

@@ -28,8 +28,8 @@ use recovery::closed_tables_are_whole;
 use std::alloc::Global;
 use std::mem;
 
-/// A session of an object; a service that is to be closed with all its callers, once there is memory; what the last session found of one, which is to be
-/// closed with the others; what a closed one left; or nothing any more.
+/// A session of an object; a service that is to be closed with all its callers, once there is memory; what the last session found of a service that it
+/// could not close yet, which is to be closed again; what a closed service left; or nothing any more.
 #[derive(Drop)]
 pub enum HandleState<O: Object> {
     Session(Session<O>),
@@ -91,8 +91,8 @@ impl<O: OfC> HandleState<O> {
         }
     }
 
-    /// Has a session take an image while others go on, where the buffer has as many words as one of one region, which is `needed`. What is taken is taken
-    /// up again where its results keep replies. What is no session is called out of turn, and `needed` is 0.
+    /// Has a session take an image while others go on, where the buffer has as many words as one of one region, which is `needed`. `base_of`
+    /// takes up what is taken, unless memory runs out. What is no session is called out of turn, and `needed` is 0.
     pub fn checkpoint(&mut self, words: &mut [u64], needed: &mut u64) -> i32
         requires callable { IsContentCallable O.Object O.replies_kept self.old }
         ensures checkpoints { LeavesContentCallable O.Object O.replies_kept self.new (ContentCheckpoints O.Object O.KIND words.old words.new needed.new result self.old self.new) }
@@ -138,8 +138,8 @@ impl<O: OfC> HandleState<O> {
         }
     }
 
-    /// Writes what a crash leaves, by choice, where the buffer has as many words as an image, which is `needed`. What is written is taken up again. What is not
-    /// closed is called out of turn, and `needed` is 0.
+    /// Writes what a crash leaves, by choice, where the buffer has as many words as an image, which is `needed`. What is written is taken up again,
+    /// unless memory runs out. What is not closed is called out of turn, and `needed` is 0.
     pub fn image(&self, choice: u64, words: &mut [u64], needed: &mut u64) -> i32
         requires callable { IsContentCallable O.Object O.replies_kept self.now }
         ensures images { ContentImages O.KIND choice words.old words.new needed.new result self.now }

@@ -23,7 +23,7 @@ impl Model for Handle {
 }
 
 impl Handle {
-    /// The box that it was made of.
+    /// The box that the handle was made of.
     pub fn into_box(self) -> Box<AnyHandleState>
         ensures { result.value ≡ self.content }
     {

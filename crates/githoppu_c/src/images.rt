@@ -14,7 +14,7 @@ pub const QUEUE: u64 = 2;
 
 pub const PROGRAM: u64 = 3;
 
-/// Writes what a crash leaves, by choice, where the buffer has as many words as an image, which is `needed`; else nothing is written.
+/// Writes what a crash leaves, by choice, where the buffer has as many words as an image, which is `needed`; else no word is written.
 pub fn write_to(
     remains: &Remains,
     kind: u64,

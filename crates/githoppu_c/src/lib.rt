@@ -330,7 +330,7 @@ pub extern "C" fn githoppu_recover_program(
 }
 
 /// What became of the last operation of a session, as the words of an image say: its number among the session's operations and its
-/// reply, or number 0 and no reply where it had none. Where it is refused, nothing is written.
+/// reply, or number 0 and 144 zeros where it had none. Where it is refused, nothing is written.
 #[unsafe(no_mangle)]
 pub extern "C" fn githoppu_outcome(
     alloc: Global,

@@ -44,8 +44,9 @@ pub fn open_program(
     boxed(alloc, sessions)
 }
 
-/// `count` sessions of the object of this program that the words of an image say, or of the one with the fingerprint `before`, where that is not 0. `Err` is
-/// the code of the refusal: BAD_SIZE where the sessions are not 1 to 8 or the fuel is above 2^20; BAD_PROGRAM; and then as for a document store.
+/// `count` sessions of the object of this program, from the words of an image of it, or of an image of the program with the fingerprint `before`, where
+/// that is not 0. `Err` is the code of the refusal: BAD_SIZE where the sessions are not 1 to 8 or the fuel is above 2^20; BAD_PROGRAM; and then as
+/// for a document store.
 pub fn recover_program(
     alloc: Global,
     words: &[u64],

@@ -1,4 +1,4 @@
-//! A box by its pointer and its allocator, in sight of this crate.
+//! A box as its pointer and its allocator, which are fields that this crate sees.
 
 ghost use Rattle.std.specs.Prelude.{◌≡◌};
 ghost use Rattle.std.specs.Box.Ownership.{box_owns};
