@@ -139,7 +139,7 @@ pub client_again : (clients client : ℕ) → client < 2 ^ 64 → client < clien
 unfolding client_of
 client_again clients client fits below = rw (number_of-decimal client fits, lt-ltb client clients below) refl
 
--- the line `cut N S`, of a client of the life that has no cut line before, is read as a cut line
+-- what stands behind `cut` in the line `cut N S`, of a client of the life that has no cut line before, is read as that cut
 pub cut_again : (clients : ℕ) (cuts : List Cut) (cut : Cut) → cut.client < 2 ^ 64 → cut.steps < 2 ^ 64 → cut.client < clients → has_cut cut.client cuts ≡ false
     → cut_of clients cuts (decimal cut.client ++ codes " " ++ decimal cut.steps) ≡ Some cut
 unfolding cut_of

@@ -103,7 +103,7 @@ module _ (ws key : List ℕ) (front rest : List PairLayout) (lower others : Stor
         ap (λ (ts : List Triple). option_map (λ (t : Triple). t.1) (find (λ (t : Triple). is_eq (key_cmp t.0.0 key)) ts)) (e ∙ triples_append ws front (place ∷ rest) lower ((key, old) ∷ others) placed)
         ∙ ap (λ o. option_map (λ (t : Triple). t.1) o) (there_in key_of_triple key here refl left right left_under)
 
-    -- the pairs with one that has another document and revision are those with this written at its key
+    -- where one pair is replaced by one with another document and revision, these are written at its key, and the other pairs are as they were
     pub triples_replaced : (document : List ℕ) (other : PairLayout) → triples_of (front ++ other ∷ rest) (lower ++ (key, document) ∷ others) ≡ written_at key document other.revision whole
     triples_replaced document other =
         triples_append ws front (other ∷ rest) lower ((key, document) ∷ others) placed ∙ sym (ap₂ (λ a b. a ++ ((key, document), other.revision) ∷ b) behind_below behind_above)
