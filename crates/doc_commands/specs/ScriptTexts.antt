@@ -22,8 +22,8 @@ use Rattle.doc_text.specs.Summary.{summary_text}
 abbrev pub HaveStoresLived : ℕ → List (Life Op) → Lived Reply → Type 0
 HaveStoresLived lines = HaveLived (document_meaning lines) lines 2 (IsImageOfStore lines) (store_step lines) reads_in
 
--- The records are of legal lives of the script. By one witness they are told by the execution logs of the services that ran them, each of which began with what
--- recovery made of what a crash left of the one before: together they are one durable object.
+-- The records are of legal lives of the script. One witness shows them in the execution logs of the services that ran them, each of which
+-- began with what recovery made of what a crash left of the one before: together they are one durable object.
 pub record AreRecords (script : Script Op) (trails : List Ending) (records : List (LifeRecord Reply)) : Type 0 where
   pub lives : AreLegalLives (document_meaning script.lines) script records
   pub witness : AreTold (document_meaning script.lines) script.lines 2 (IsImageOfStore script.lines) (store_step script.lines) reads_in script.lives records trails

@@ -118,7 +118,7 @@ cut_is clients cuts text cut e =
     subst (λ (made : Cut). IsCutLine made (codes "cut " ++ text) × (made.client < clients) × (has_cut made.client cuts ≡ false)) steps.2
     ((ap (λ (t : List ℕ). codes "cut " ++ t) spelled, name.1, number.1), name.2, new.0)
 
--- ---- what is spelled so is read
+-- ---- lines that are spelled by these rules are read
 
 -- the line `lines N`, with 64 to 16,384 lines, is read as a header
 pub header_again : (lines : ℕ) → 64 ≤ lines → lines ≤ 16384 → header_of (codes "lines " ++ decimal lines) ≡ Some lines

@@ -40,11 +40,11 @@ placed_insert x z [] rest (q ∷ lower) others place pair n m is = absurd n
 placed_insert x z (p ∷ front) rest [] others place pair n m is = absurd n
 placed_insert x z (p ∷ front) rest (q ∷ lower) others place pair n m is = (m.0, placed_insert x z front rest lower others place pair n.1 m.1 is)
 
--- the room for it
+-- where one pair more fits into the lines, there is room for its lines beside those of the places
 pub add_room : (x : List ℕ) (version : ℕ) (store : Store) (s : StandsFor x version store) (pair : List ℕ × List ℕ) → lines_of store + pair_lines pair + 1 ≤ line_count x → HasRoom x s.places [] (pair_lines pair)
 add_room x version store s pair l = (let e = lines_of_places x s.places store s.arranged.nodes.pairs in omega (arith, e, l))
 
--- beside the tree
+-- the node of a place that is loose is none of the nodes of the tree
 apart_of : (z : List ℕ) (head : RevisionHead) (store : Store) (tree : Tree ℕ) (places : List PairLayout) (given : List ℕ) (place : PairLayout) (node : ℕ) → IsLaidOut z head store tree places given (lines_at place) → node ≡ place.node → tree_times node tree ≡ 0
 apart_of z head store tree places given place node a e =
     let used = flat_map lines_at places in
