@@ -21,7 +21,7 @@ abbrev pub IsReply : FifoReply → Type 0
 IsReply (Item text) = IsText text
 IsReply _ = Unit {0}
 
--- texts of bytes, and numbers of 64 bits
+-- a reply whose text, if it has one, is of bytes, and whose number, if it has one, has 64 bits
 abbrev pub IsReplyValue : FifoReply → Type 0
 IsReplyValue (Item text) = All (λ b. b < 256) text
 IsReplyValue (Length number) = number < 2 ^ 64

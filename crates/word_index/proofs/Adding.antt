@@ -143,7 +143,7 @@ module _ (x : List ℕ) (pair : List ℕ × List ℕ) (version : ℕ) (store : S
             ∙ ap (written_at pair.0 pair.1 revision) (sym (ap₂ triples_of m.split.places_are m.split.store_is));
       }
 
-  -- its tree and its count of pairs are small
+  -- the nodes of the tree with the new one are there; they, and the pairs counted before, are at most 2^32
   pub added_there : AreThere z (with_new (order_in pair.0 x) node s.tree)
   added_there = there
 
@@ -160,7 +160,7 @@ module _ (x : List ℕ) (pair : List ℕ × List ℕ) (version : ℕ) (store : S
   pub added_pairs : word_of (with_tree (with_new (order_in pair.0 x) node s.tree) z) 0 5 ≤ 2 ^ 32
   added_pairs = (let few = few_pairs z (head_of version s.last) store s.tree s.places p.given (lines_at p.place) p.arranged in let count = add_count in omega (arith, few, count))
 
--- as the code runs
+-- where a pair may be added, its lines can be taken
 pub can_write : (x nodes sides : List ℕ) (depth : ℕ) (pair : List ℕ × List ℕ) → CanAdd x nodes sides depth pair → CanTake x (pair_lines pair)
 can_write x nodes sides depth pair c =
     let s = c.index.stands in
@@ -184,7 +184,7 @@ add_few x z y nodes sides depth revision node n pair c w t e =
     let few = few_pairs z (head_of 2 s.last) c.index.store s.tree s.places p.given (lines_at p.place) p.arranged in
     omega (arith, e, count, few)
 
--- what is written is what its meaning says
+-- a key and a document within the limits are bytes, each no longer than its limit
 pub plain_of : (pair : List ℕ × List ℕ) → IsKey pair.0 → IsDocument pair.1 → IsPlain pair
 plain_of pair k d = record { key_short = k.short; document_short = d.short; key_bytes = key_small pair.0 k; document_bytes = document_small pair.1 d }
 
