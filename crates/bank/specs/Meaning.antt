@@ -24,12 +24,12 @@ pub record IsBank (lines count total : ℕ) (image : List ℕ) : Type 0 where
   pub version : slice_index image 0 ≡ 1
   pub sum_is : sum (accounts_in count image) ≡ total
 
--- a memory whose words stand for such an image
+-- a memory of the given number of lines, whose words are an image of a bank of these accounts and this total
 pub record HoldsBank {Memory : Type 0} (m : Ghosts Memory) (lines count total : ℕ) (mem : Memory) : Type 0 where
   pub size : m.size mem ≡ 8 * lines
   pub lawful : Always (m.stands mem) (IsBank lines count total)
 
--- a memory that may be stored to, whose words stand for such an image
+-- a memory that holds an image of a bank, and may be stored to
 pub record MayChangeBank {Memory : Type 0} (m : Ghosts Memory) (lines count total : ℕ) (mem : Memory) : Type 0 where
   pub holds : HoldsBank m lines count total mem
   pub writable : IsTrue (m.writable mem)

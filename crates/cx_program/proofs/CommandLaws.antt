@@ -98,7 +98,7 @@ owed_as asked words given input status trails text asks is wanted long short = r
   owes = record { calls = wanted; only = λ other called. calls_one (command_asked asked) input other status (sound asked) called wanted; long = long; short = short };
 }
 
--- of one within the limit, and of a longer one
+-- what is owed for an input within the limit, and for a longer one
 pub owed_short : (asked : Option AskedCommand) (words : List (List ℕ)) (given : Option (List ℕ)) (input : List ℕ) (status : Status) (trails : List Ending) (text : List ℕ)
     → (command_asked asked).asked words → IsInput (command_asked asked).reads given input → length input ≤ 16777216
     → (command_asked asked).calls input status → (command_asked asked).writes input status trails text → Owed words given status trails text

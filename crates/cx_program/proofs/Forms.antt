@@ -56,7 +56,7 @@ has_form words Trace is = lone_has_form (codes "trace") words (inr (inr (inr (in
 has_form words (Load load) is = load_has_form load.from load.clients load.ops words is
 has_form words (Pool seats) is = pool_has_form seats.count words is
 
--- four words that are those of no load ask for nothing
+-- `load` and three words behind it that are those of no load ask for no command
 pub none_of_load : (words : List (List ℕ)) (first second third : List ℕ) → words ≡ codes "load" ∷ first ∷ second ∷ third ∷ []
     → ((from clients ops : ℕ) → IsLoadOf from clients ops words → ⊥) → (asked : AskedCommand) → (command asked).asked words → ⊥
 none_of_load words first second third are no_load Run is =
@@ -73,7 +73,7 @@ none_of_load words first second third are no_load (Load load) is = no_load load.
 none_of_load words first second third are no_load (Pool seats) is =
     let bad : codes "load" ∷ first ∷ second ∷ third ∷ [] ≡ codes "pool" ∷ decimal seats.count ∷ [] = sym are ∙ is.are in cc
 
--- nor do two words that are those of no pool
+-- `pool` and a word behind it that are those of no pool ask for no command
 pub none_of_pool : (words : List (List ℕ)) (seats : List ℕ) → words ≡ codes "pool" ∷ seats ∷ [] → ((n : ℕ) → IsPoolOf n words → ⊥) → (asked : AskedCommand) → (command asked).asked words → ⊥
 none_of_pool words seats are no_pool Run is = let bad : codes "pool" ∷ seats ∷ [] ≡ codes "run" ∷ [] = sym are ∙ is in cc
 none_of_pool words seats are no_pool Image is = let bad : codes "pool" ∷ seats ∷ [] ≡ codes "image" ∷ [] = sym are ∙ is in cc
@@ -84,7 +84,7 @@ none_of_pool words seats are no_pool (Load load) is =
     let bad : codes "pool" ∷ seats ∷ [] ≡ codes "load" ∷ decimal load.from ∷ decimal load.clients ∷ decimal load.ops ∷ [] = sym are ∙ is.are in cc
 none_of_pool words seats are no_pool (Pool pool) is = no_pool pool.count is
 
--- a word that is none of these asks for nothing alone
+-- a word alone that is none of `run`, `image`, `recover`, `fifo` and `trace` asks for no command
 pub none_alone : (word : List ℕ) → (word ≡ codes "run" → ⊥) → (word ≡ codes "image" → ⊥) → (word ≡ codes "recover" → ⊥) → (word ≡ codes "fifo" → ⊥) → (word ≡ codes "trace" → ⊥)
     → (asked : AskedCommand) → (command asked).asked (word ∷ []) → ⊥
 none_alone word no_run no_image no_recover no_fifo no_trace Run is = no_run (same_word word (codes "run") is)

@@ -50,7 +50,7 @@ IsWrittenWith words given Memory trails before after = after ≡ before
 IsWrittenWith words given WriteFault trails before after = (text : List ℕ) × IsOwed words given text × AppendsFront text before after
 IsWrittenWith words given status trails before after = (text : List ℕ) × Owed words given status trails text × Appends text before after
 
--- what caused a status: the count of the source's faults rose, or that of the sink's
+-- what caused a status: for `ReadFault` the count of the source's faults rose, for `WriteFault` that of the sink's; no other status needs a cause
 abbrev pub HasCause : Status → ℕ → ℕ → ℕ → ℕ → Type 0
 HasCause ReadFault reads reads' writes writes' = Rose reads reads'
 HasCause WriteFault reads reads' writes writes' = Rose writes writes'

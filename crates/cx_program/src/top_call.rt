@@ -27,11 +27,11 @@ const USAGE: &[u8] =
     b"usage: cx_tool run | image | recover | load FROM CLIENTS OPS | pool SEATS | fifo | trace\n";
 
 /// Runs the command that the words name. With `run` it reads a script from the source, runs its lives and writes the
-/// report, with `image` the image that the last crash left; with `recover` it reads such an image, and writes what is recovered
+/// report, with `image` the image that the last crash left; with `recover` it reads an image, and writes what is recovered
 /// from it; with `fifo` it reads a script of a queue, runs its lives and writes their report; with `trace` it reads a recorded trace,
 /// and writes whether it is a run or which line is the first that fails; with `pool` and a number it reads a script whose clients share this
 /// many callers, runs its life and writes the report; with `load` and three numbers it makes a script, runs it and writes four lines on it,
-/// and reads nothing. Where the words or the input are refused, the text that is written names the reason.
+/// and reads nothing. Where the words ask for no command, the text that is written lists the commands; where the input is refused, it names the reason.
 /// The whole text is made before its first byte is written. Every outcome is a status. It may wait.
 pub fn cx_run<R: Threads + Wait + Sync, S: Source, K: Sink, G: Gate + Sync>(
     rt: &R,

@@ -10,7 +10,7 @@ use Rattle.doc_model.specs.declared.operations.Reply.{Reply}
 use Rattle.doc_text.specs.declared.recovered.Applied.{Applied}
 use Rattle.doc_commands.specs.Outcomes.{IsLastCommand, IsReplyOf, has_number}
 
--- what is told of the clients below one
+-- the last commands of the clients below `n`: of each with a number, whose slot holds a reply
 pub record IsToldBelow (region : List ℕ) (n : ℕ) (outcomes : List Applied) : Type 0 where
   pub clients : map (λ applied. applied.client) outcomes ≡ filter (has_number region) (range_with_len 0 n)
   pub commands : All (IsLastCommand region) outcomes

@@ -63,7 +63,7 @@ store_at-cons : (lines : ℕ) (store : RevisedStore) (life : Life Op) (line : Jo
     → store_at (document_meaning lines) store life (line ∷ journal) (suc i) ≡ store_at (document_meaning lines) (store_after lines store op) life journal i
 store_at-cons lines store life line journal i op is = rw is
 
--- a reply that is told is this one
+-- no reply, or one that is equal to `r`, is none or `r`
 none_or : (r : Reply) (reply : Option Reply) → IfSome reply (λ given. given ≡ r) → IsNoneOr r reply
 none_or r None same = inl refl
 none_or r (Some given) same = inr (ap Some same)
@@ -119,7 +119,7 @@ same_op lines store life a b is_told other client command =
 same_line : (a b : JournalLine Reply) → a.ticket ≡ b.ticket → a.client ≡ b.client → a.command ≡ b.command → a.reply ≡ b.reply → a ≡ b
 same_line a b ticket client command reply = λ i. record { ticket = ticket i; client = client i; command = command i; reply = reply i }
 
--- where two told lines `a` and `b` begin equal texts, with `x` and `y` behind them, they are the same but for replies, and `x` is `y`
+-- where two lines `a` and `b`, right for one store, begin equal texts, with `x` and `y` behind them, they are the same but for replies, and `x` is `y`
 same_first : (lines : ℕ) (store : RevisedStore) (life : Life Op) (a b : JournalLine Reply) (x y : List ℕ)
     → IsTold lines store life a → IsTold lines store life b
     → journal_text document_wording life a ++ x ≡ journal_text document_wording life b ++ y → (bare a ≡ bare b) × (x ≡ y)

@@ -81,7 +81,7 @@ module _ (version : ℕ) (lawful : List ℕ → Type 0) (old : OldFormat) (image
       (exactly version lawful old image (Err f) is (λ e. some (the_fault f Memory e))).accepted accepted in
       absurd cc
 
--- the same with the look at the slots
+-- a fault of an image of documents is one of recovery, or a slot that holds no reply
 kinds : (image : Image) (fault : ImageFault) → IsDocumentFault image fault
     → IsFaultOf 2 (IsImageOfStore image.lines) (first_format image.lines) image fault ⊎ ((fault ≡ Body) × IsStoreImage image × (¬ HoldsStoreReplies (region_of image)))
 kinds image (Size found) is = inl is
@@ -129,7 +129,7 @@ pub part_is_image : (image : Image) (base : Base) → 1168 ≤ length (region_of
 part_is_image image base long is =
     subst (λ (b : Base). IsImageOfStore image.lines (object_part b.words)) (sym is.is) (recovered_part image.lines (region_of image) long is.accepted.region.body.object)
 
--- what is told by what recovery gives
+-- an answer that is right for the base that recovery gives is right for the image
 pub answered : (image : Image) (base : Base) (answer : Result Recovered ImageFault) → 1168 ≤ length (region_of image)
     → IsRecovered 2 (IsImageOfStore image.lines) (first_format image.lines) image base
     → MatchResult answer (HasDocuments base) (IsOutcomesFault base.words) → IfOk answer (λ _. HoldsStoreReplies base.words) → IsAnswerTo image answer

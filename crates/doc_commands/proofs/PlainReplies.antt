@@ -91,19 +91,19 @@ same_until b (c ∷ ds) (d ∷ es) x y others more e =
     let tail : ds ≡ es = found.0 in
     (cc, found.1)
 
--- what is told where a client was not answered
+-- the text of a line in place of a reply, where the client was not answered
 abbrev pub unanswered : List ℕ
 unanswered = codes "unanswered"
 
 unanswered_others : AreOthers 10 unanswered
 unanswered_others = (refl, (refl, (refl, (refl, (refl, (refl, (refl, (refl, (refl, (refl, tt))))))))))
 
--- the first byte of a text
+-- the first byte of a text, and for the empty text 117, with which `unanswered` begins
 abbrev first_of : List ℕ → ℕ
 first_of [] = 117
 first_of (b ∷ text) = b
 
--- no reply but a document begins as that does
+-- a text that begins with another byte than `unanswered` does not stand at the front of what begins with `unanswered`
 other_first : (text x y : List ℕ) → eqb 117 (first_of text) ≡ false → unanswered ++ x ≡ text ++ y → ⊥
 other_first [] x y other e = true≢false other
 other_first (b ∷ text) x y other e = let same : 117 ≡ b = cc in true≢false (sym (eq-eqb 117 b same) ∙ other)

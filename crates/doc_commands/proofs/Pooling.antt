@@ -36,7 +36,7 @@ runs seats script life report remains one pooled = record {
   callers = pooled.callers;
 }
 
--- the lines of such records name commands of the script
+-- the lines of the records of a pool script name commands of the script
 pub named : (lines seats : ℕ) (lives : List (Life Op)) (records : List (LifeRecord Reply)) (trails : List Ending) → AreOfDocumentPool lines seats lives records trails → NameCommands lives records
 named lines seats [] [] [] are = tt
 named lines seats (life ∷ []) (report ∷ []) (trail ∷ []) are = (let m = document_meaning lines in names_of_lives m 0 m.opening (life ∷ []) (report ∷ []) (are.0.legal, tt))

@@ -75,7 +75,7 @@ same_first lines place store life journal a b x y legal other fits others_fit e 
     fits.2 others_fit.2 (lit≤ tt) place_text in
     same_line a b client.0 command.0 at.0 (same_reply lines place store life journal a b legal other client.0 command.0 at.0)
 
--- a read that may have been answered so beside one journal, with its numbers
+-- a read that is legal beside one journal, with numbers within 64 bits
 pub record IsReadOff (lines place : ℕ) (store : RevisedStore) (life : Life Op) (journal : List (JournalLine Reply)) (line : ReadLine Reply) : Type 0 where
   pub legal : IsLegalRead (document_meaning lines) place store life journal line
   pub numbers : HasReadNumbers line

@@ -27,7 +27,7 @@ pub record HasDocuments (base : Base) (found : Recovered) : Type 0 where
   pub outcomes : AreOutcomes base.words found.outcomes
   pub documents : HaveDocuments (object_part base.words) found.documents
 
--- an image tells of documents: it passes these checks, and each slot with a number holds a reply
+-- an image tells of documents: it passes the checks of recovery, and each slot with a number holds a reply
 pub record TellsDocuments (image : Image) : Type 0 where
   pub accepted : IsStoreImage image
   pub replies : HoldsStoreReplies (region_of image)

@@ -39,7 +39,7 @@ pub record RunsPool (seats : ℕ) (script : Script Op) (report : LifeRecord Repl
   pub are : AreOfDocumentPool script.lines seats script.lives (report ∷ []) (remains.trail ∷ [])
   pub callers : remains.callers ≡ seats
 
--- The text is the report of such records.
+-- The text is the report of the record of a pool life of the script's one life, or of no record where the script has no life.
 pub record IsPoolReport (seats : ℕ) (script : Script Op) (trails : List Ending) (text : List ℕ) : Type 0 where
   pub records : List (LifeRecord Reply)
   pub are : AreOfDocumentPool script.lines seats script.lives records trails

@@ -22,13 +22,13 @@ use Rattle.doc_text.specs.Summary.{summary_text}
 abbrev pub HaveStoresLived : ℕ → List (Life Op) → Lived Reply → Type 0
 HaveStoresLived lines = HaveLived (document_meaning lines) lines 2 (IsImageOfStore lines) (store_step lines) reads_in
 
--- The records are of legal lives of the script. By one witness they are told by the execution logs of the services that ran them, each of which began with what
--- recovery made of what a crash left of the one before: together they are one durable object.
+-- The records are of legal lives of the script. One witness shows them in the execution logs of the services that ran them, each of which
+-- began with what recovery made of what a crash left of the one before: together they are one durable object.
 pub record AreRecords (script : Script Op) (trails : List Ending) (records : List (LifeRecord Reply)) : Type 0 where
   pub lives : AreLegalLives (document_meaning script.lines) script records
   pub witness : AreTold (document_meaning script.lines) script.lines 2 (IsImageOfStore script.lines) (store_step script.lines) reads_in script.lives records trails
 
--- The text is the report of such records.
+-- The text is the report of records of legal lives of the script, witnessed by these trails.
 pub record IsReport (script : Script Op) (trails : List Ending) (text : List ℕ) : Type 0 where
   pub records : List (LifeRecord Reply)
   pub are : AreRecords script trails records
@@ -39,8 +39,8 @@ abbrev pub text_left : Option Image → List ℕ
 text_left None = []
 text_left (Some image) = text_of image
 
--- The text is that of the image that the crash at the end of the last life left, by the witness of such records. What is recovered from it is the base with
--- which a next life would begin behind them. Where there is no life there is no text.
+-- The text is that of the image that the crash at the end of the last life left, by the witness of records of legal lives of the script.
+-- What is recovered from the image is the base with which a next life would begin behind them. Where there is no life the text is empty.
 pub record IsLastImage (script : Script Op) (trails : List Ending) (text : List ℕ) : Type 0 where
   pub records : List (LifeRecord Reply)
   pub are : AreRecords script trails records

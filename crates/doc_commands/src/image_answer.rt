@@ -15,7 +15,7 @@ use std::alloc::{AllocError, Global};
 /// How an answer ends.
 #[derive(Clone, Copy, Debug, PartialEq, Eq)]
 pub enum ImageEnd {
-    /// The image was recovered, and the text shows what of.
+    /// The image was recovered, and the text shows what is recovered from it.
     Fine,
     /// The bytes are no image text.
     Refused,

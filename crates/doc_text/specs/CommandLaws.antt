@@ -204,7 +204,7 @@ add_again key amount k fits =
     let one = word_alone (signed_decimal amount) (signed_unspaced amount fits) in
     rw (cut.0, cut.1, one.1, key_passes key k) (ap (add_amount key) (integer_of-signed_decimal amount fits))
 
--- a text that asks for a command is read as it
+-- a text that asks for a command is read as that command
 pub asked_again : (op : Op) (text : List ℕ) → Asks op text → asked_op (Some text) ≡ Ok op
 unfolding verb_of
 asked_again (Put key document) text (json, spelled, k, is) = rw (spelled, append_assoc key (codes " ") json) (put_again key json document k is)

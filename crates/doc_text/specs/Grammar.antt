@@ -41,7 +41,7 @@ Asks (PutIf key revision document) text =
     (json : List ℕ) × (text ≡ codes "putif " ++ key ++ codes " " ++ decimal revision ++ codes " " ++ json) × IsKey key × (revision < 2 ^ 64) × IsJsonOf json document
 Asks (Rev key) text = (text ≡ command_text (Rev key)) × IsKey key
 
--- the commands of documents, in scripts that may have so much, each of whose refusals has such a reason
+-- the commands on documents, in scripts with these limits; `reason` gives the reasons of the refusals that any script may have
 abbrev pub commands_in : ScriptLimits → (ScriptReason → Reason) → Commands Op Reason
 commands_in limits reason = record { limits = limits; Asks = Asks; reason = reason; rows = command_rows }
 

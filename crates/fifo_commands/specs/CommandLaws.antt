@@ -1,4 +1,4 @@
--- Commands on a queue are read by their rules: what is read is asked for, what is asked for is read, and the reason told is the first that fits.
+-- Commands on a queue are read by their rules: what is read is asked for, what is asked for is read, and a refusal has the first reason that fits.
 use Rattle.std.specs.Prelude.{codes, is_some}
 use Rattle.std.proofs.Common.{◌≡◌, ℕ, cond, List, ◌∷◌, ◌++◌, Option, None, Some, Ok, Err, refl, sym, ap, subst, ◌∙◌, arith, inl, inr}
 use Rattle.plain_text.specs.Words.{first_word, rest_of}

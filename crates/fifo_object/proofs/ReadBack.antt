@@ -93,7 +93,7 @@ none_has_no_kind words none =
       | false ↦ λ _. refl
     ]) refl
 
--- words with a kind are those of an operation of it
+-- words that have a kind are those of an operation of that kind
 pub of_kind : (words : List ℕ) (k : ℕ) → kind_in words ≡ suc k → IsOp (op_by (suc k) words) × (op_words (op_by (suc k) words) ≡ words)
 unfolding kind_in is_op_in
 of_kind words k is =

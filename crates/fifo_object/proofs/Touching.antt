@@ -10,7 +10,7 @@ use Rattle.fifo_object.specs.declared.operations.FifoReply.TheVariants.{Empty, F
 use Rattle.fifo_object.specs.Fifo.{IsSameAt, IsSameBeside, TouchesTwoLines, count_in, fifo_step, front_words, queue_head, item_at, len_step, peek_step, item_place, pop_step, popped, push_step, pushed}
 use Rattle.fifo_object.specs.FifoLaws.{holds_of_choice, item_fits}
 
--- a word of the header put otherwise, and an item at the place
+-- storing a word of the header, or an item at a place, leaves all words but those of the header and of that place
 set_beside : (place j v : ℕ) (image : List ℕ) → j < 8 → IsSameBeside place (slice_set image j v) image
 set_beside place j v image below at from apart = get_or-set_other image j at v 0 (λ e. omega (arith, e, below, from))
 
@@ -23,7 +23,7 @@ second : (b : Bool) (x y : List ℕ × List ℕ) → (cond b x y).1 ≡ cond b x
 second true x y = refl
 second false x y = refl
 
--- the reply that is the item at the front, of two images that are the same there
+-- the reply about the front is the same for two images that are the same in the header's line and at the head
 front_same : (image other : List ℕ) → IsSameAt (queue_head image) other image →
     cond (count_in other == 0) (reply_words Empty) (words_of_item 3 (item_at other (queue_head other))) ≡ cond (count_in image == 0) (reply_words Empty) (words_of_item 3 (item_at image (queue_head image)))
 front_same image other same =

@@ -107,7 +107,7 @@ step_by kind lines item image =
 unfoldable pub fifo_step : ℕ → List ℕ → List ℕ → List ℕ × List ℕ
 fifo_step lines image op = step_by (kind_in op) lines (item_in op) image
 
--- whether these are the words of an operation that only reads
+-- whether words have the kind of an operation that only reads
 unfoldable pub fifo_reads : List ℕ → Bool
 fifo_reads op = kind_in op == 3 || kind_in op == 4
 

@@ -38,7 +38,7 @@ module _ (lines : ℕ) (image : List ℕ) (i : IsFifo lines image) where
   pub at_head : item_place lines image 0 ≡ queue_head image
   at_head = ap (λ k. k % (lines - 1)) (let e : queue_head image + 0 ≡ queue_head image = omega arith in e) ∙ mod-eq_of_lt i.header.head
 
-  -- the item at the front
+  -- where there is an item, the item of a text stands at the head
   pub front_item : 0 < count_in image → is_item (item_at image (queue_head image)) ≡ true
   front_item some = ap (λ p. is_item (item_at image p)) (sym at_head) ∙ i.items 0 some
 

@@ -108,7 +108,7 @@ module _ (lines : ℕ) (image : List ℕ) (i : IsFifo lines image) (some : 2 ≤
   after_push queue text r is =
       subst (λ b. StandsForQueue lines (push_step lines (item_words text) image).0 (cond b queue (queue ++ text ∷ []))) (full_is queue r) (push_by (nat_le (lines - 1) (count_in image)) queue text refl r is)
 
-  -- the reply of a push is Full or Pushed, by the test whether there is room
+  -- the reply of a push is Full or Pushed, by the test whether the queue is full
   push_reply_by : (b : Bool) (text : List ℕ) → (cond {A = List ℕ × List ℕ} b (image, reply_words Full) (pushed lines (item_words text) image, reply_words Pushed)).1 ≡ reply_words (cond b Full Pushed)
   push_reply_by true text = refl
   push_reply_by false text = refl

@@ -21,7 +21,7 @@ pub item_same : (image other : List ℕ) (p : ℕ) → ((k : ℕ) → k < 8 → 
 item_same image other p same =
     item_is other (item_at image p) p (length-map-range_with_len (λ k. slice_index image (8 * (p + 1) + k)) 0 8) (λ k below. sym (word_at image p k below ∙ same k below))
 
--- a word of the header is at no place
+-- a word stored in the header leaves what stands at each place
 pub header_apart : (image : List ℕ) (j v p : ℕ) → j < 8 → item_at (slice_set image j v) p ≡ item_at image p
 header_apart image j v p below = item_same (slice_set image j v) image p (λ k within. get_or-set_other image j (8 * (p + 1) + k) v 0 (λ e. omega (arith, e, below)))
 
@@ -56,7 +56,7 @@ module _ (lines : ℕ) (image item : List ℕ) (w : Words (8 * lines) image) (so
   abbrev with_item : List ℕ
   with_item = overwritten (8 * (behind_last + 1)) item image
 
-  -- a word of the header that a push leaves
+  -- a push leaves each word of the header but the count
   pub pushed_header : (j : ℕ) → j < 8 → j ≢ 2 → slice_index (pushed lines item image) j ≡ slice_index image j
   unfolding pushed
   pushed_header j below other =
@@ -81,7 +81,7 @@ module _ (lines : ℕ) (image : List ℕ) (w : Words (8 * lines) image) (some : 
   long_enough : 2 < length with_head
   long_enough = omega (arith, length-set image 1 (item_place lines image 1), w.long, some)
 
-  -- a word of the header that a pop leaves
+  -- a pop leaves each word of the header but the head and the count
   pub popped_header : (j : ℕ) → j ≢ 1 → j ≢ 2 → slice_index (popped lines image) j ≡ slice_index image j
   unfolding popped
   popped_header j one two = get_or-set_other with_head 2 j (count_in image - 1) 0 two ∙ get_or-set_other image 1 j (item_place lines image 1) 0 one

@@ -21,7 +21,7 @@ abbrev pub IsReply : FifoReply → Type 0
 IsReply (Item text) = IsText text
 IsReply _ = Unit {0}
 
--- texts of bytes, and numbers of 64 bits
+-- a reply whose text, if it has one, is of bytes, and whose number, if it has one, has 64 bits
 abbrev pub IsReplyValue : FifoReply → Type 0
 IsReplyValue (Item text) = All (λ b. b < 256) text
 IsReplyValue (Length number) = number < 2 ^ 64
@@ -70,12 +70,12 @@ abbrev pub queue_after_all : ℕ → Queue → List FifoOp → Queue
 queue_after_all lines queue [] = queue
 queue_after_all lines queue (op ∷ ops) = queue_after_all lines (queue_after lines queue op) ops
 
--- the text of a push that is answered so
+-- the text of a push that is answered with Pushed
 abbrev pub pushed_by : FifoOp → FifoReply → Queue
 pushed_by (Push text) Pushed = text ∷ []
 pushed_by op reply = []
 
--- the text of a pop that is answered so
+-- the text of a pop that is answered with an item
 abbrev pub popped_by : FifoOp → FifoReply → Queue
 popped_by Pop (Item text) = text ∷ []
 popped_by op reply = []

@@ -7,7 +7,7 @@ use Rattle.atomic_table.proofs.Lists.{one_turn}
 use Rattle.fifo_object.specs.Queue.{Queue}
 use Rattle.fifo_object.specs.Ring.{IsQueueInRing, put_at}
 
--- an item of a list with one more
+-- an item of a queue with a text behind it is one of the queue, or that text at the end
 last_or : (queue : Queue) (text : List ℕ) (i : ℕ) (t : List ℕ) → slice_get (queue ++ text ∷ []) i ≡ Some t → (slice_get queue i ≡ Some t) ⊎ ((i ≡ length queue) × (text ≡ t))
 last_or [] text zero t at = inr (refl, same_Some text t at)
 last_or [] text (suc i) t at = absurd (none-some t at)

@@ -52,7 +52,7 @@ bytes_small text is i = elim (cases_lt i (length text)) [
 
 -- ---- items
 
--- of at most 56 bytes
+-- a text of at most 56 bytes is read back from its item
 short_again : (text : List ℕ) → length text ≤ 56 → ((i : ℕ) → get_or text i 0 < 256) → text_in (item_words text) ≡ text
 unfolding text_in
 short_again text few small =

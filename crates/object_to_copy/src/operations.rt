@@ -49,7 +49,7 @@ impl Op {
         }
     }
 
-    /// Whether it only tells.
+    /// Whether the operation only reads.
     pub fn only_reads(self) -> bool
         ensures { result ≡ is_reading self }
     {

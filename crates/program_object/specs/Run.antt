@@ -67,7 +67,7 @@ pub record MayRun {Memory : Type 0} (mem : Ghosts Memory) (words : ℕ) (writes 
   pub writable : IsTrue writes → IsTrue (mem.writable m)
   pub few : undo.count ≤ 256
 
--- What it leaves: all words as they were, where it may not store, and no more stores noted than there is room for.
+-- What a run leaves: all words as they were, where it may not store, and no more stores noted than there is room for.
 pub record LeavesRun {Memory : Type 0} (mem : Ghosts Memory) (writes : Bool) (before after : Memory) (undo : Undo) : Type 0 where
   pub kept : IsFalse writes → Becomes (mem.stands before) (mem.stands after) ◌≡◌
   pub few : undo.count ≤ 256

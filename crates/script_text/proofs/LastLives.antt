@@ -63,14 +63,14 @@ module _ {Op : Type 0} where
   command_count-with_command command [] = omega arith
   command_count-with_command command (life ∷ lives) = let more = command_count-more command (life ∷ lives) (omega arith) in omega (arith, more)
 
-  -- a cut adds none
+  -- a cut line adds no command to those of all lives
   pub command_count-with_cut : (cut : Cut) (lives : List (Life Op)) → command_count (with_last (with_cut cut) lives) ≡ command_count lives
   command_count-with_cut cut (life ∷ next ∷ lives) =
       count-cons life (with_last (with_cut cut) (next ∷ lives)) ∙ ap (λ n. length life.commands + n) (command_count-with_cut cut (next ∷ lives))
       ∙ sym (count-cons life (next ∷ lives))
   command_count-with_cut cut _ = refl
 
-  -- nor does a life that begins
+  -- a life that begins without commands adds none to those of all lives
   pub command_count-begun : (lives : List (Life Op)) (begun : Life Op) → begun.commands ≡ [] → command_count (lives ++ begun ∷ []) ≡ command_count lives
   command_count-begun lives begun none =
       let added = sum_by-append (λ (life : Life Op). length life.commands) lives (begun ∷ []) in

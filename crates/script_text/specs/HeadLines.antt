@@ -118,7 +118,7 @@ cut_is clients cuts text cut e =
     subst (λ (made : Cut). IsCutLine made (codes "cut " ++ text) × (made.client < clients) × (has_cut made.client cuts ≡ false)) steps.2
     ((ap (λ (t : List ℕ). codes "cut " ++ t) spelled, name.1, number.1), name.2, new.0)
 
--- ---- what is spelled so is read
+-- ---- lines that are spelled by these rules are read
 
 -- the line `lines N`, with 64 to 16,384 lines, is read as a header
 pub header_again : (lines : ℕ) → 64 ≤ lines → lines ≤ 16384 → header_of (codes "lines " ++ decimal lines) ≡ Some lines
@@ -139,7 +139,7 @@ pub client_again : (clients client : ℕ) → client < 2 ^ 64 → client < clien
 unfolding client_of
 client_again clients client fits below = rw (number_of-decimal client fits, lt-ltb client clients below) refl
 
--- the line `cut N S`, of a client of the life that has no cut line before, is read as a cut line
+-- what stands behind `cut` in the line `cut N S`, of a client of the life that has no cut line before, is read as that cut
 pub cut_again : (clients : ℕ) (cuts : List Cut) (cut : Cut) → cut.client < 2 ^ 64 → cut.steps < 2 ^ 64 → cut.client < clients → has_cut cut.client cuts ≡ false
     → cut_of clients cuts (decimal cut.client ++ codes " " ++ decimal cut.steps) ≡ Some cut
 unfolding cut_of

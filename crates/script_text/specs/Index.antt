@@ -11,7 +11,7 @@ module _ {Op : Type 0} where
   AreOwnOps commands lists =
       (client : ℕ) (own : Vec (Bor Op)) → slice_get lists client ≡ Some own → map (λ op. op.now) own.items ≡ own_ops client commands
 
-  -- there is such a list for each client of a life
+  -- the lists are those of the operations of the clients of a life, one list for each client
   pub record IsLifeIndex (life : Life Op) (lists : List (Vec (Bor Op))) : Type 0 where
     pub clients : length lists ≡ life.clients
     pub ops : AreOwnOps life.commands lists

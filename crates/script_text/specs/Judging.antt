@@ -45,7 +45,7 @@ module _ {Op : Type 0} where
     text : is_utf8 line ≡ true
     some : eqb before.lines 0 ≡ false
 
-  -- of one that begins no life
+  -- what is known of a line in a life that begins no life, and was read as far as its first word
   record StandsIn (before : Script Op) (line : List ℕ) (life : Life Op) : Type 0 where
     text : is_utf8 line ≡ true
     some : eqb before.lines 0 ≡ false

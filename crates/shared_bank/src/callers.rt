@@ -32,7 +32,7 @@ pub struct CallCounts {
     pub right: u64,
 }
 
-/// What a caller found that looked at the bank.
+/// What a caller that looked at the bank found.
 #[derive(Clone, Copy, Debug)]
 pub struct Found {
     /// What account 0 has.

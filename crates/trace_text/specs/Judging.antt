@@ -57,7 +57,7 @@ mapped : {A B : Type 0} (f : A → B) (o : Option A) (y : B) → option_map f o 
 mapped f None y e = absurd (none-some y e)
 mapped f (Some x) y e = (x, refl, same_Some (f x) y e)
 
--- ---- what is read of a first line, and of a crash, is what it says
+-- ---- what is read from a first line, and from a crash line, is what that line says
 
 within_is : (callers lines : ℕ) (head : ℕ × ℕ) → trace_head_within callers lines ≡ Some head → IsTraceHeadLine head (codes "trace " ++ (decimal callers ++ (codes " " ++ decimal lines)))
 within_is callers lines head e =
@@ -111,7 +111,7 @@ crash_is callers text what e =
     subst (λ (w : TraceWhat). SaysTraceLine callers w (codes "crash " ++ text)) (same_Some (Crash choice place) what both)
     (ap (λ (t : List ℕ). codes "crash " ++ t) spelled, one.1, two.1))))
 
--- ---- what is read of a kind's name and numbers is what they say
+-- ---- what is read from a name and numbers is the kind of step that has them
 
 -- the kind of this name, with these numbers and nothing behind them
 abbrev IsRow : List ℕ → List ℕ → Kind → Type 0
@@ -174,7 +174,7 @@ three_is name a b c k e =
     (row (codes "read_set") name (ReadSet a b c) k (a ∷ b ∷ c ∷ []) _ (refl, refl, refl)
     (row (codes "note_gap") name (NoteGap a b c) k (a ∷ b ∷ c ∷ []) None (refl, refl, refl) (none_left name (a ∷ b ∷ c ∷ []) k)))))) e
 
--- the kind has numbers in front of those that stand here
+-- the kind has this name, and its numbers are `front` and behind them those of which `here` is the text
 record Numbered (name front here : List ℕ) (kind : Kind) : Type 0 where
   ns : List ℕ
   row_is : IsRow name (front ++ ns) kind
@@ -223,7 +223,7 @@ numbered_is : (name : List ℕ) (rest : Option (List ℕ)) (k : Kind) → number
 numbered_is name None k e = record { ns = []; row_is = without_is name k e; spelled = refl; fits = All-nil Fit }
 numbered_is name (Some text) k e = first_is name text k e
 
--- ---- what is read of a kind of step is what it says
+-- ---- a text from which a kind of step is read is a text of that kind
 
 -- the text of a kind, by its parts
 as_kind : (kind : Kind) (text name numbers end_ : List ℕ) (ns : List ℕ) → text ≡ name ++ numbers → name ≡ kind_name kind → kind_numbers kind ≡ ns → numbers ≡ numbers_text ns ++ end_ → EndsKindLine kind end_ → All Fit ns → IsKindText kind text
@@ -363,7 +363,7 @@ kind_is : (text : List ℕ) (kind : Kind) → kind_of text ≡ Some kind → IsK
 unfolding kind_of
 kind_is text kind e = subst (IsKindText kind) (sym (by_rest text (rest_of text) refl)) (kind_by_is (first_word text) (rest_of text) kind e)
 
--- ---- what is read of a further line is what it says
+-- ---- what is read from a line behind the first is what that line says
 
 event_is : (callers : ℕ) (word text : List ℕ) (caller : Option ℕ) (what : TraceWhat) → caller_number_of callers word ≡ caller → event_of caller text ≡ Some what
     → SaysTraceLine callers what (word ++ 32 ∷ text)
@@ -390,7 +390,7 @@ what_is callers line what e =
       | inr miss ↦ event_is callers (first_word line) text (caller_number_of callers (first_word line)) what refl (rw miss at is)
     ]))
 
--- ---- what a line says is read of it
+-- ---- what a line says is what is read from that line
 
 head_again : (line : List ℕ) (head : ℕ × ℕ) → IsTraceHeadLine head line → trace_head_of line ≡ Some head
 unfolding trace_head_of trace_head_behind
@@ -416,7 +416,7 @@ crash_again choice place fits fits_too =
     let cut = word_cut (decimal choice) (codes "place " ++ decimal place) (decimal_unspaced choice fits) in
     rw (cut.0, cut.1, number_of-decimal choice fits, number_of-decimal place fits_too) refl
 
--- the kind of a name with one number, two or three
+-- a name with the text of one number, of two or of three is read as the kind of that name with these numbers
 one_again : (name : List ℕ) (a : ℕ) → Fit a → with_first name (decimal a) ≡ kind_with_one name a
 unfolding with_first with_second
 one_again name a fits = let one = word_alone (decimal a) (decimal_unspaced a fits) in rw (one.0, one.1, number_of-decimal a fits) refl
@@ -435,7 +435,7 @@ three_again name a b c fits fits_too fit_all =
     let next = word_cut (decimal b) (decimal c) (decimal_unspaced b fits_too) in
     rw (cut.0, cut.1, number_of-decimal a fits, next.0, next.1, number_of-decimal b fits_too, number_of-decimal c fit_all) refl
 
--- a kind's text, by its name and numbers
+-- a text of a name and numbers with nothing behind them is spelled by these alone
 as_none : (name text end_ : List ℕ) → text ≡ name ++ (numbers_text [] ++ end_) → end_ ≡ [] → text ≡ name
 as_none name text end_ spelled ends = spelled ∙ ap (λ (t : List ℕ). name ++ t) ends ∙ append-nil name
 
@@ -531,7 +531,7 @@ kind_again (Raise code (Some words)) text is =
     ∙ read_again code op command (is.fits 0 0 (omega arith)) is.ends.2
     ∙ ap (λ (ws : List ℕ). Some (Raise code (Some ws))) (sym is.ends.3)
 
--- a number is no word of letters
+-- the text of a number is not the word `crash`
 number_no_crash : (n : ℕ) → Fit n → is_word (codes "crash") (decimal n) ≡ false
 number_no_crash n fits =
     elim (cases_Bool (is_word (codes "crash") (decimal n))) [

@@ -73,7 +73,6 @@ kind_numbers (ReadSet k t i) = k ∷ t ∷ i ∷ []
 kind_numbers (NoteGap s i v) = s ∷ i ∷ v ∷ []
 kind_numbers (LoadGap s i) = s ∷ i ∷ []
 
--- each number behind a space
 -- numbers as text, each behind a space
 abbrev pub numbers_text : List ℕ → List ℕ
 numbers_text [] = []

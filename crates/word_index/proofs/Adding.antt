@@ -40,11 +40,11 @@ placed_insert x z [] rest (q ∷ lower) others place pair n m is = absurd n
 placed_insert x z (p ∷ front) rest [] others place pair n m is = absurd n
 placed_insert x z (p ∷ front) rest (q ∷ lower) others place pair n m is = (m.0, placed_insert x z front rest lower others place pair n.1 m.1 is)
 
--- the room for it
+-- where one pair more fits into the lines, there is room for its lines beside those of the places
 pub add_room : (x : List ℕ) (version : ℕ) (store : Store) (s : StandsFor x version store) (pair : List ℕ × List ℕ) → lines_of store + pair_lines pair + 1 ≤ line_count x → HasRoom x s.places [] (pair_lines pair)
 add_room x version store s pair l = (let e = lines_of_places x s.places store s.arranged.nodes.pairs in omega (arith, e, l))
 
--- beside the tree
+-- the node of a place that is loose is none of the nodes of the tree
 apart_of : (z : List ℕ) (head : RevisionHead) (store : Store) (tree : Tree ℕ) (places : List PairLayout) (given : List ℕ) (place : PairLayout) (node : ℕ) → IsLaidOut z head store tree places given (lines_at place) → node ≡ place.node → tree_times node tree ≡ 0
 apart_of z head store tree places given place node a e =
     let used = flat_map lines_at places in
@@ -143,7 +143,7 @@ module _ (x : List ℕ) (pair : List ℕ × List ℕ) (version : ℕ) (store : S
             ∙ ap (written_at pair.0 pair.1 revision) (sym (ap₂ triples_of m.split.places_are m.split.store_is));
       }
 
-  -- its tree and its count of pairs are small
+  -- the nodes of the tree with the new one are there; they, and the pairs counted before, are at most 2^32
   pub added_there : AreThere z (with_new (order_in pair.0 x) node s.tree)
   added_there = there
 
@@ -160,7 +160,7 @@ module _ (x : List ℕ) (pair : List ℕ × List ℕ) (version : ℕ) (store : S
   pub added_pairs : word_of (with_tree (with_new (order_in pair.0 x) node s.tree) z) 0 5 ≤ 2 ^ 32
   added_pairs = (let few = few_pairs z (head_of version s.last) store s.tree s.places p.given (lines_at p.place) p.arranged in let count = add_count in omega (arith, few, count))
 
--- as the code runs
+-- where a pair may be added, its lines can be taken
 pub can_write : (x nodes sides : List ℕ) (depth : ℕ) (pair : List ℕ × List ℕ) → CanAdd x nodes sides depth pair → CanTake x (pair_lines pair)
 can_write x nodes sides depth pair c =
     let s = c.index.stands in
@@ -184,7 +184,7 @@ add_few x z y nodes sides depth revision node n pair c w t e =
     let few = few_pairs z (head_of 2 s.last) c.index.store s.tree s.places p.given (lines_at p.place) p.arranged in
     omega (arith, e, count, few)
 
--- what is written is what its meaning says
+-- a key and a document within the limits are bytes, each no longer than its limit
 pub plain_of : (pair : List ℕ × List ℕ) → IsKey pair.0 → IsDocument pair.1 → IsPlain pair
 plain_of pair k d = record { key_short = k.short; document_short = d.short; key_bytes = key_small pair.0 k; document_bytes = document_small pair.1 d }
 

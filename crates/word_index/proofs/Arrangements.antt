@@ -62,7 +62,7 @@ empty_more version at v x y below sized is so =
       behind = drop-set-lt 8 y at v below ∙ so.behind;
     }
 
--- the whole header
+-- once 8 words of the empty header are stored, the first 8 words are those of the empty header
 whole_header : (version at : ℕ) (x y : List ℕ) → at ≡ 8 → EmptySoFar version at x y → take 8 y ≡ version ∷ 0 ∷ 0 ∷ 1 ∷ replicate 4 0
 whole_header version at x y e so = subst (λ n. take n y ≡ take n (version ∷ 0 ∷ 0 ∷ 1 ∷ replicate 4 0)) e so.front
 

@@ -44,7 +44,7 @@ times_middle x front rest place =
 pub times_parts : (x : ℕ) (front rest : List PairLayout) → times x (flat_map lines_at (front ++ rest)) ≡ times x (flat_map lines_at front) + times x (flat_map lines_at rest)
 times_parts x front rest = ap (times x) (flat_map-append lines_at front rest) ∙ times_append x (flat_map lines_at front) (flat_map lines_at rest)
 
--- the words without a node
+-- the words with the node of a key cut out of the tree
 module _ (ws key : List ℕ) (version : ℕ) (store : Store) (s : StandsFor ws version store) (node : ℕ) (h : HasPlace ws key s.places store (walk_end (order_in key ws) s.tree).0 (walk_end (order_in key ws) s.tree).1 node) where
   abbrev out : Tree ℕ
   out = without (order_in key ws) s.tree
@@ -127,7 +127,7 @@ module _ (ws key : List ℕ) (version : ℕ) (store : Store) (s : StandsFor ws v
       let lines = a.sized.few in
       omega (arith, few, end, lines)
 
-  -- and with its lines given back
+  -- once the node of a key is cut out and its lines are given back, the words have the pairs without that key
   pub removed_stands : (w : List ℕ) → w ≡ with_pair_given node (with_one_less (with_tree (without (order_in key ws) s.tree) ws)) →
       HasTriples w (head_of version s.last) (without_key key store) (removed_at key (triples_of s.places store))
   removed_stands w e =
@@ -183,7 +183,7 @@ cuts x z w nodes sides depth node n t e f key above spot i some =
     f ∙ ap (λ m. with_word 0 5 (m - 1) z) (sym e)
     ∙ ap (λ v. with_word 0 5 (word_of v 0 5 - 1) v) (t (order_in key x) s.tree there ∙ ap (λ u. with_tree (without (order_in key x) u) x) (sym (tree_in_is x s.tree (tree_of x 2 i.store s))))
 
--- the words that the cut leaves
+-- cutting the node of a key out of the tree that is read off the words cuts it out of the tree that they stand for
 pub cut_is : (x key : List ℕ) (version : ℕ) (store : Store) (s : StandsFor x version store) → with_node_cut key x ≡ with_one_less (with_tree (without (order_in key x) s.tree) x)
 unfolding with_node_cut
 cut_is x key version store s = ap (λ u. with_one_less (with_tree (without (order_in key x) u) x)) (tree_in_is x s.tree (tree_of x version store s))
@@ -204,7 +204,7 @@ cut_pair x w nodes sides depth node c t =
       there = cut_loose x c.key 2 c.index.store s node h;
     })
 
--- and the exact words
+-- the node at which the walk to a key ended is the one that the definition names
 node_is : (y key nodes sides : List ℕ) (depth node above : ℕ) → AtSpot false key nodes sides depth node above y → IsIndex y → node ≡ node_at key y
 unfolding node_at
 node_is y key nodes sides depth node above spot i =

@@ -60,7 +60,7 @@ chain_keeps : (n line : ℕ) (ws : List ℕ) → length (with_chain_given n line
 chain_keeps zero line ws = refl
 chain_keeps (suc n) line ws = chain_keeps n (word_of ws line 0) (with_line_given line ws) ∙ given_keeps line ws
 
--- one place for another, and loose lines
+-- where one place is replaced by another, a line is as often among all lines, if it is so among those of the two places and the loose ones
 balanced : (k : ℕ) (front rest : List PairLayout) (place other : PairLayout) (given loose now_loose : List ℕ) → times k (lines_at other) + times k now_loose ≡ times k (lines_at place) + times k loose →
     times k (flat_map lines_at (front ++ other ∷ rest) ++ given ++ now_loose) ≡ times k (flat_map lines_at (front ++ place ∷ rest) ++ given ++ loose)
 balanced k front rest place other given loose now_loose e =
@@ -341,7 +341,7 @@ module _ (x : List ℕ) (node : ℕ) (document : List ℕ) (c : CanRewrite x nod
               )));
         }
 
-  -- at the node itself
+  -- the words with the document of the node given back are those by the definition
   pub emptied_is : with_emptied node x ≡ emptied
   unfolding with_emptied
   emptied_is =
@@ -369,7 +369,7 @@ module _ (x : List ℕ) (node : ℕ) (document : List ℕ) (c : CanRewrite x nod
       let w = rewritten_is short in
       subst (IsWithin y) (sym c.here) (All-head (IsWithin y) c.place.node (c.place.key_lines ++ w.lines) (node_within y c.head (c.lower ++ (c.pair.0, document) ∷ c.after) w.tree c.front c.rest (moved w.lines) w.given [] w.arranged))
 
-  -- with a revision
+  -- the words with a document replaced and a revision stand for the pairs with these two
   pub replaced_is : (revision : ℕ) → length document ≤ 1024 → IsRewritten (with_replaced document node revision x) c.head c.lower c.after (c.pair.0, document) c.front c.rest c.place revision
   unfolding with_replaced
   replaced_is revision short =
@@ -382,7 +382,7 @@ module _ (x : List ℕ) (node : ℕ) (document : List ℕ) (c : CanRewrite x nod
         arranged = revision_is x y c.head c.lower c.after (c.pair.0, document) w.tree c.front c.rest (moved w.lines) w.given c.placed_front w.arranged revision;
       })
 
-  -- as the code runs
+  -- once the node names no document, the blocks of the one that it named are a loose chain
   pub chain_loose : (first count : ℕ) → word_of x node 5 ≡ first → document_blocks node x ≡ count → LooseChain (with_word node 6 0 (with_word node 5 0 x)) first count
   chain_loose first count f e =
       subst (λ n. LooseChain (with_word n 6 0 (with_word n 5 0 x)) first count) (sym c.here)

@@ -22,7 +22,7 @@ module _ (key x : List ℕ) (store : Store) (s : StandsFor x 2 store) where
   abbrev RepresentsTree : List ℕ → Type 0
   RepresentsTree w = StandsWith w s.last (without_key key store) (removed_at key (triples_of s.places store))
 
-  -- without the key, by whether it was there
+  -- the words after a removal stand for the store without the key, whether it was there or not
   without_by : (b : Bool) → is_some (document_at key store) ≡ b → RepresentsTree (cond b (with_pair_given (node_at key x) (with_node_cut key x)) x)
   without_by b e =
       let node = root (walk_end (order_in key x) s.tree).1 in

@@ -9,7 +9,7 @@ use Rattle.word_index.specs.Changes.{with_line_given, LooseChain, ChainGiven, Lo
 use Rattle.word_index.specs.Exact.{with_chain_given, with_text_given, with_pair_given}
 use Rattle.cx_base.proofs.WordLemmas.{Words-at, Words-set}
 
--- words among words
+-- giving back a line leaves as many words, each of 64 bits
 pub given_words : (n : ℕ) (ws : List ℕ) (line : ℕ) → line < 2 ^ 64 → word_of ws 0 4 ≤ 2 ^ 32 → Words n ws → Words n (with_line_given line ws)
 unfolding with_line_given
 given_words n ws line small few w =
@@ -65,7 +65,7 @@ unfolding with_text_given
 text_given_words k node at x t w =
     chain_given_words (word_of x node at) ((word_of x node (at + 1) + 55) / 56) x k (loose_chain x node at t) (Words-at k x (8 * node + at) w) w
 
--- a pair
+-- giving back a pair by the definition gives back its lines
 pub pair_is_given : (node : ℕ) (x : List ℕ) → PairGiven node x (with_pair_given node x)
 unfolding with_pair_given
 pair_is_given node x =

@@ -16,7 +16,7 @@ use Rattle.word_index.specs.Changes.{with_line_given}
 use Rattle.word_index.specs.Exact.{with_chain_given, with_text_given, with_pair_given, line_to_take, with_line_taken, block_words, with_text, with_new_pair}
 use Rattle.word_index.specs.Fresh.{IsBlock}
 
--- a chain given back
+-- at the beginning all of a chain is left to give back, from the line `first` on
 pub chain_begins : (count first : ℕ) (x y : List ℕ) → x ≡ y → with_chain_given (count - 0) first y ≡ with_chain_given count first x
 chain_begins count first x y e = (let z : count - 0 ≡ count = omega arith in ap (λ n. with_chain_given n first y) z ∙ ap (with_chain_given count first) (sym e))
 
@@ -42,7 +42,7 @@ pub pair_runs : (node : ℕ) (x y z w : List ℕ) → y ≡ with_text_given node
 unfolding with_pair_given
 pair_runs node x y z w d k is = is ∙ ap (with_line_given node) (k ∙ ap (with_text_given node 3) d)
 
--- a line taken
+-- taking the first line that was never given, where none is given back, takes the line that the definition takes
 pub new_line_runs : (x y z : List ℕ) (head line : ℕ) → y ≡ x → word_of y 0 2 ≡ head → head ≡ 0 → (word_of y 0 3 ≡ line) × (z ≡ with_word 0 3 (line + 1) y) → (line ≡ line_to_take x) × (z ≡ with_line_taken x)
 unfolding line_to_take with_line_taken
 new_line_runs x y z head line e is none r =
@@ -100,7 +100,7 @@ text_goes_on text count j next line content y z w target l r t b f =
 pub text_ends : (text : List ℕ) (count j next : ℕ) (y : List ℕ) (target : ℕ × List ℕ) → j ≡ count → with_text text (count - j) next y ≡ target → target ≡ (next, y)
 text_ends text count j next y target e r = (let none : count - j ≡ 0 = omega arith in sym r ∙ ap (λ n. with_text text n next y) none)
 
--- a pair written
+-- a node taken, the texts of a key and a document, and the words of the node make the words with the new pair
 pub new_pair_runs : (node key_first doc_first key_len doc_len revision count other : ℕ) (key_words doc_words x y z w v : List ℕ) → IsPacked 8 key_len key_words → IsPacked 128 doc_len doc_words → count ≡ div_ceil key_len 56 → other ≡ div_ceil doc_len 56 →
     (node ≡ line_to_take x) × (y ≡ with_line_taken x) → with_text key_words count 0 y ≡ (key_first, z) → with_text doc_words other 0 z ≡ (doc_first, w) →
     v ≡ overwritten (8 * node) (0 ∷ 0 ∷ 1 ∷ key_first ∷ key_len ∷ doc_first ∷ doc_len ∷ revision ∷ []) w → with_new_pair (unpacked key_len key_words, unpacked doc_len doc_words) revision x ≡ (node, v)

@@ -19,7 +19,7 @@ use Rattle.word_index.specs.Exact.{line_to_take, with_line_taken, block_words, w
 use Rattle.word_index.specs.Fresh.{CanTake, LineTaken, LineFilled, IsBlock, TextWritten}
 use Rattle.word_index.specs.Insertion.{PairWritten}
 
--- a line
+-- taking a line by the definition takes it
 module _ (x : List ℕ) where
   taken_by : (b : Bool) → (word_of x 0 2 == 0) ≡ b →
       LineTaken (cond b (word_of x 0 3) (word_of x 0 2)) x (cond b (with_word 0 3 (word_of x 0 3 + 1) x) (with_word 0 4 (word_of x 0 4 - 1) (with_word 0 2 (word_of x (word_of x 0 2) 0) x)))
@@ -58,7 +58,7 @@ pub filled_by_row : (line start : ℕ) (content x y z : List ℕ) → length con
 filled_by_row line start content x y z long at p e =
     subst (LineFilled line content x) (sym (e ∙ ap₂ (λ n w. overwritten n content w) at p.0)) (row_is_filled line content x long (subst (λ w. IsWithin w line) p.0 p.1))
 
--- a block
+-- the defined words of a block are a block
 pub block_is : (next : ℕ) (text : List ℕ) (from : ℕ) → IsBlock next text from (block_words next text from)
 unfolding block_words
 block_is next text from = record {
@@ -67,7 +67,7 @@ block_is next text from = record {
   long = ap suc (length-map-range_with_len (λ i. get_or text (from + i) 0) 0 7);
 }
 
--- a text
+-- writing a text by the definition writes it into new blocks, where there is room
 module _ (text : List ℕ) (count : ℕ) (x : List ℕ) (can : CanTake x count) where
   -- writing the `n` blocks that are left of a text, after `j` of them, has the whole text written
   text_goes : (n j next : ℕ) (y : List ℕ) → j + n ≡ count → WrittenSoFar text count j next x y → TextWritten text count (with_text text n next y).0 x (with_text text n next y).1

@@ -36,7 +36,7 @@ chain_on x y (line ∷ lines) first same c = (c.0, subst (λ n. IsChain y n line
 within_on : (x y lines : List ℕ) → length y ≡ length x → All (IsWithin x) lines → All (IsWithin y) lines
 within_on x y lines long w = λ k d l. subst (λ n. 8 * get_or lines k d + 8 ≤ n) (sym long) (w k d l)
 
--- the words after
+-- the lines of a chain hold a text from `from` on, and what else the words had is as it was
 pub record IsFilled (x now lines text : List ℕ) (from : ℕ) : Type 0 where
   pub long : length now ≡ length x
   pub next : SameNext x now
@@ -83,14 +83,14 @@ chain_filled text (line ∷ lines) x from first c w once =
           ]);
     }
 
--- their number stays
+-- filling the blocks of a chain leaves the number of the words
 pub filled_long : (text : List ℕ) (n from line : ℕ) (ws : List ℕ) → length (with_chain_filled text n from line ws) ≡ length ws
 filled_long text zero from line ws = refl
 filled_long text (suc n) from line ws =
     let y = overwritten (8 * line) (block_words (word_of ws line 0) text from) ws in
     filled_long text n (from + 7) (word_of ws line 0) y ∙ length-overwritten (block_words (word_of ws line 0) text from) ws (8 * line)
 
--- as the code runs
+-- the first line of a chain of one line or more, all of whose lines are there, is there
 pub line_there : (x : List ℕ) (line n count : ℕ) → HasLines x line n → n ≡ suc count → IsWithin x line
 line_there x line n count h e = by_lines h.lines h.chain h.within (sym h.counted ∙ e)
   where

@@ -43,7 +43,7 @@ stored_elsewhere ws line i v other below ne = λ j l. get_or-set_other ws (8 * l
 pub same_then : (a b c : List ℕ) (line : ℕ) → SameLine a b line → SameLine b c line → SameLine a c line
 same_then a b c line p q = λ i l. q i l ∙ p i l
 
--- what stands in lines that are as they were
+-- a chain of lines that are as they were is still that chain
 pub chain_same : (ws now lines : List ℕ) (first : ℕ) → All (SameLine ws now) lines → IsChain ws first lines → IsChain now first lines
 chain_same ws now [] first same c = c
 chain_same ws now (line ∷ lines) first same c =

@@ -35,7 +35,7 @@ stands_alone line end used given loose once =
       not_loose = absent line loose (omega (arith, most, a, b, c, d));
     }
 
--- the words after a line is given back
+-- what giving a line back leaves as it was in the words
 module _ (ws : List ℕ) (line : ℕ) (some : 1 ≤ line) (within : 8 * line + 8 ≤ length ws) where
   pub given_elsewhere : (other : ℕ) → other ≢ line → 1 ≤ other → SameLine ws (with_line_given line ws) other
   unfolding with_line_given
@@ -161,7 +161,7 @@ so_far_none first count x y e head store tree places lines others loose chain co
       same = λ k d l i b. refl;
     })
 
--- the next line is there
+-- where some lines of a loose chain are left, from `line` on, `line` can be given back
 part_within : (x y : List ℕ) (head : RevisionHead) (store : Store) (tree : Tree ℕ) (places : List PairLayout) (others rest given : List ℕ) (i line count : ℕ) → i < count → i + length rest ≡ count →
     IsLaidOut y head store tree places given (rest ++ others) → IsChain y line rest → CanGive y line
 part_within x y head store tree places others [] given i line count l e a c = absurd (omega arith)
@@ -176,7 +176,7 @@ next_can_be_given first count i line x y l h r =
     let p = r h.head h.store h.tree h.places h.lines h.others h.loose h.chain h.counted in
     part_within x y h.head h.store h.tree h.places h.others p.rest p.loose.given i line count l p.left p.loose.arranged p.chain
 
--- one line more is given back
+-- lines that are the same in `x` and `y`, and in `y` and `z`, are the same in `x` and `z`
 pub all_same_then : (x y z lines : List ℕ) → All (SameLine x y) lines → All (SameLine y z) lines → All (SameLine x z) lines
 all_same_then x y z lines p q = λ k d l. same_then x y z (get_or lines k d) (p k d l) (q k d l)
 

@@ -125,7 +125,7 @@ module _ (x key document : List ℕ) (version : ℕ) (store : Store) (s : Stands
   unfolding node_at
   node_at_is = ap (λ u. root (walk_end (order_in key x) u).1) (sym (tree_in_is x s.tree (tree_of x version store s)))
 
-  -- either way
+  -- the words with a document put at a key have the pairs with it, whether the key was there or not
   pub there_with : (revision : ℕ) → IsKey key → IsDocument document → lines_of (with_pair key document store) + 1 ≤ line_count x → (b : Bool) → is_some (document_at key store) ≡ b →
       HasTriples (cond b (with_replaced document (node_at key x) revision x) (with_added (key, document) revision x)) (head_of version s.last) (with_pair key document store) (written_at key document revision (triples_of s.places store))
   there_with revision is_key is_document room b e =
@@ -152,7 +152,7 @@ module _ (key document x : List ℕ) (is_key : IsKey key) (is_document : IsDocum
   abbrev next : ℕ
   next = next_revision (word_of x 0 6)
 
-  -- where there is room
+  -- where there is room, the words with a document put at a key stand for the store with it
   put_stands : (store : Store) (s : StandsFor x 2 store) → has_room (line_count x) (with_pair key document store) ≡ true →
       StandsWith (with_word 0 6 next (with_written key document next x)) next (with_pair key document store) (written_at key document next (triples_of s.places store))
   unfolding is_key_in with_written
@@ -186,7 +186,7 @@ module _ (key document x : List ℕ) (is_key : IsKey key) (is_document : IsDocum
   unfolding inserted_in with_document
   inserted_is = inserted_by (has_room (line_count x) (with_pair key document (store_in x))) refl
 
-  -- and the revisions
+  -- the revisions read off the words after a put are those of the store with the document, or as before where there is no room
   revised_by : (i : IsIndex x) (b : Bool) → has_room (line_count x) (with_pair key document (store_in x)) ≡ b →
       revised_in (cond b (with_word 0 6 next (with_written key document next x)) x) ≡ cond b (store_written key document (revised_in x)) (revised_in x)
   unfolding revised_in
@@ -203,7 +203,7 @@ module _ (key document x : List ℕ) (is_key : IsKey key) (is_document : IsDocum
 pub can_have_node : (ws key nodes sides : List ℕ) (depth node above : ℕ) → AtSpot false key nodes sides depth node above ws → IsIndex ws → node ≢ 0 → HasNode ws node
 can_have_node ws key nodes sides depth node above spot i n = spot_node ws key nodes sides depth node above spot n i
 
--- the lines with the new pair
+-- the lines in use without those of the old pair and with those of the new one are `total`
 pub record IsCounted (used old more total : ℕ) : Type 0 where
   pub below : old ≤ used
   pub sum : used - old + more ≡ total
@@ -309,7 +309,7 @@ module _ {x key nodes sides : List ℕ} {depth node above used old lines : ℕ} 
       };
     }
 
-    -- and the exact words
+    -- where there is no room, NoRoom and the words as they are is what the definition says
     pub exact_none : lines - 1 < used - old + more → PutsDocument key document NoRoom x x
     unfolding inserted_in with_document
     exact_none l =

@@ -17,7 +17,7 @@ unpacked_at n words k within = get_or-map-range_with_len (byte_at words) 0 n k k
 unpacked_long : (n : ℕ) (words : List ℕ) → length (unpacked n words) ≡ n
 unpacked_long n words = rw length-map (length-range_with_len 0 n)
 
--- bytes of words that are the same
+-- where words are the same, their bytes are
 pub words_bytes : (left right : List ℕ) (whole : ℕ) → ((k : ℕ) → k < whole → get_or left k 0 ≡ get_or right k 0) → (k : ℕ) → k < 8 * whole → byte_at left k ≡ byte_at right k
 words_bytes left right whole same k below = ap (λ w. w / 2 ^ (8 * (k % 8)) % 256) (same (k / 8) (omega arith))
 
@@ -45,7 +45,7 @@ byte_tells (x ∷ xs) (y ∷ ys) zero a b same ne = apart_first x y (nat_cmp x y
 byte_tells (x ∷ xs) (y ∷ ys) (suc i) a b same ne =
     byte_tells xs ys i (omega arith) (omega arith) (λ k l. same (suc k) (omega arith)) ne ∙ ap (λ o. ordering_then o (slice_cmp nat_cmp xs ys)) (sym (tie x y (same 0 (omega arith))))
 
--- and where none does, the length
+-- where no byte that both lists have differs, the lengths give the order
 length_tells : (xs ys : List ℕ) → ((k : ℕ) → k < length xs → k < length ys → get_or xs k 0 ≡ get_or ys k 0) → nat_cmp (length xs) (length ys) ≡ key_cmp xs ys
 length_tells [] [] same = refl
 length_tells [] (y ∷ ys) same = sym (nat_cmp_is 0 (suc (length ys)) Less (omega arith))

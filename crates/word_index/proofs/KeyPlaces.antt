@@ -57,7 +57,7 @@ module _ (ws key : List ℕ) where
       let rest = All-tail (λ p. IsKey p.0) q store keys in
       (λ ne. all_above_nodes q.0 places store n.1 rest (λ l. ne (here ∙ l)) r.0, cut_nodes places store n.1 r.1 rest)
 
-  -- the pairs of nodes that are below or above
+  -- pairs are below a key where their nodes are, and above a key where their nodes are
   pub below_pairs : (places : List PairLayout) (store : Store) → Placed ws places store → All (λ p. IsKey p.0) store → All (λ n. order_in key ws n ≡ Less) (nodes_of places) → All (λ p. key_cmp p.0 key ≡ Less) store
   below_pairs [] [] n keys all = All-nil (λ p. key_cmp p.0 key ≡ Less)
   below_pairs [] (q ∷ store) n keys all = absurd n
@@ -112,7 +112,7 @@ split_at ws (p ∷ places) (q ∷ store) (x ∷ xs) ys n e =
       placed_rest = s.placed_rest;
     }
 
--- a pair of a store at a place
+-- the node of a place at which a pair of a store stands is a node of that pair
 pub node_there : (ws : List ℕ) (head : RevisionHead) (store lower others : Store) (tree : Tree ℕ) (places front rest : List PairLayout) (given loose : List ℕ) (node : ℕ) (place : PairLayout) (pair : List ℕ × List ℕ) →
     IsLaidOut ws head store tree places given loose → IsStore store → places ≡ front ++ place ∷ rest → store ≡ lower ++ pair ∷ others → node ≡ place.node → IsAt ws place pair → IsNodeOf ws node pair
 node_there ws head store lower others tree places front rest given loose node place pair a lawful p s e is = record {
@@ -127,7 +127,7 @@ node_there ws head store lower others tree places front rest given loose node pl
   is_document = all_middle (λ q. IsDocument q.1) lower others pair (subst (All (λ q. IsDocument q.1)) s lawful.documents);
 }
 
--- the first of some pairs
+-- the first node of placed pairs is the node of the first of them, and 0 where there are none
 pub first_node : (ws : List ℕ) (head : RevisionHead) (store lower others : Store) (tree : Tree ℕ) (places front rest : List PairLayout) (given loose : List ℕ) (node : ℕ) (nodes : List ℕ) →
     IsLaidOut ws head store tree places given loose → IsStore store → places ≡ front ++ rest → store ≡ lower ++ others → Placed ws rest others → nodes_of rest ≡ nodes → IsFirst node nodes → All (λ n. 1 ≤ n) nodes → IsFirstNode ws node others
 first_node ws head store lower [] tree places front [] given loose node [] a lawful p s n e f some = f
@@ -186,7 +186,7 @@ here_at ws places store xs x ys n e =
     let s = split_at ws places store xs (x ∷ ys) n e in
     here_of ws places s.front s.rest store s.lower s.others xs x ys s.places_are s.store_is s.front_nodes s.rest_nodes s.placed_front s.placed_rest
 
--- in a list of rising keys
+-- where keys rise, those behind a pair are above its key, and those before the pair below its key
 pub rises_after : (lower : Store) (pair : List ℕ × List ℕ) (after : Store) → KeysRise (lower ++ pair ∷ after) → All (λ q. key_cmp pair.0 q.0 ≡ Less) after
 rises_after [] pair after r = r.0
 rises_after (q ∷ lower) pair after r = rises_after lower pair after r.1
@@ -196,7 +196,7 @@ rises_before [] pair after r = All-nil (λ p. key_cmp p.0 pair.0 ≡ Less)
 rises_before (q ∷ lower) pair after r =
     All-cons (λ p. key_cmp p.0 pair.0 ≡ Less) q lower (All-head (λ p. key_cmp q.0 p.0 ≡ Less) pair after (all_right (λ p. key_cmp q.0 p.0 ≡ Less) lower (pair ∷ after) r.0)) (rises_before lower pair after r.1)
 
--- a walk past a key
+-- nodes that an order cuts in two are cut in two by the order of a walk past the key, too
 cut_past : (order : ℕ → Ordering) (xs : List ℕ) → IsCutBy order xs → IsCutBy (λ n. toward true (order n)) xs
 cut_past order [] c = tt
 cut_past order (x ∷ xs) c =
@@ -279,7 +279,7 @@ module _ (ws : List ℕ) (version : ℕ) (store : Store) (s : StandsFor ws versi
           above_is = subst (λ w. IsFirst above (behind w)) (sym (way_ended_same ws (walk_order past key ws) s.tree tree_of nodes sides d node p.on e)) p.above_is;
         }
 
-    -- the end of a walk
+    -- the subtree at which a walk ends stands in the words
     pub end_stands : RepresentsTree ws (spot (walk_order past key ws) [] s.tree).1
     end_stands = stands_at ws (spot (walk_order past key ws) [] s.tree).0 (spot (walk_order past key ws) [] s.tree).1 (subst (RepresentsTree ws) (sym (spot_whole (walk_order past key ws) [] s.tree)) s.arranged.nodes.shape)
 
@@ -375,7 +375,7 @@ none_at ws key version store s e =
 pub spot_none : (ws key nodes sides : List ℕ) (d node above version : ℕ) (store : Store) (s : StandsFor ws version store) → IsWalkEnded nodes sides (order_in key ws) d node above s.tree → node ≡ 0 → IsMissing ws key s.places store (spot (order_in key ws) [] s.tree).0
 spot_none ws key nodes sides d node above version store s e z = none_at ws key version store s (sym z ∙ e.at.node_is)
 
--- or at the node of the key
+-- the walk to a key ends at the node of the key's pair
 pub record HasPlace (ws key : List ℕ) (places : List PairLayout) (store : Store) (way : List (Turn ℕ)) (here : Tree ℕ) (node : ℕ) : Type 0 where
   pub left : Tree ℕ
   pub right : Tree ℕ
@@ -436,7 +436,7 @@ pub map_append : (f : PairLayout → ℕ) (xs ys : List PairLayout) → map f (x
 map_append f [] ys = refl
 map_append f (x ∷ xs) ys = ap (λ u. f x ∷ u) (map_append f xs ys)
 
--- what is found
+-- where the walk to a key ended at no node, the store has no document of the key
 pub spot_missing : (ws key nodes sides : List ℕ) (d node above : ℕ) → AtSpot false key nodes sides d node above ws → node ≡ 0 → (version : ℕ) (store : Store) → StandsFor ws version store → document_at key store ≡ None
 spot_missing ws key nodes sides d node above spot z version store s =
     let m = spot_none ws key nodes sides d node above version store s (spot version store s) z in
@@ -462,7 +462,7 @@ spot_node ws key nodes sides d node above spot n i =
     let f = spot_found ws key nodes sides d node above spot n 2 i.store i.stands in
     record { pair = (key, f.0); is = f.2 }
 
--- past a key
+-- pairs whose nodes a walk past a key leaves to its left are not above the key
 not_above : (ws key : List ℕ) (places : List PairLayout) (store : Store) → Placed ws places store → All (λ p. IsKey p.0) store → All (λ n. walk_order true key ws n ≡ Less) (nodes_of places) → All (λ p. is_lt (key_cmp key p.0) ≡ false) store
 not_above ws key [] [] n keys all = All-nil (λ p. is_lt (key_cmp key p.0) ≡ false)
 not_above ws key [] (q ∷ store) n keys all = absurd n

@@ -23,7 +23,7 @@ some_line at bytes lines l e = omega arith
 two_lines : (at bytes lines : ℕ) → 7 ≤ at → at < (bytes + 7) / 8 → lines ≡ (bytes + 55) / 56 → 1 < lines
 two_lines at bytes lines seven l e = omega arith
 
--- the first block, and the second
+-- the first block of a key is there, and the second where the key has more than 7 words
 pub first_within : (ws : List ℕ) (first at : ℕ) → ((count : ℕ) × (at < count) × HasChainWords ws first count) → IsWithin ws first
 first_within ws first at c =
     let h = c.2 in
@@ -41,7 +41,7 @@ second_within ws first second at seven c e =
     let two = two_lines at (length h.bytes) (length h.lines) seven used h.holds.enough in
     subst (IsWithin ws) (sym (second_is ws first second h.lines h.bytes h.holds (omega (arith, two)) e)) (h.within 1 0 two)
 
--- a word of the first, and the first word of the second
+-- the words 1 to 7 of the first block are the first packed words of a text, and word 1 of the second block is the next one
 word_in_first : (ws : List ℕ) (first at v : ℕ) → at < 7 → word_of ws first (1 + at) ≡ v → (lines bytes : List ℕ) → Holds ws first lines bytes → 0 < length lines → v ≡ packed_at bytes at
 word_in_first ws first at v low e lines bytes h some =
     let q : at / 7 ≡ 0 = omega (arith, low) in

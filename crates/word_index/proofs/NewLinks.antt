@@ -23,7 +23,7 @@ all_present P [] f = All-nil P
 all_present P (x ∷ xs) f =
     All-cons P x xs (f x (λ z. absurd (let c = times_cons x x xs in let o = times_self x in omega (arith, c, o, z)))) (all_present P xs (λ y n. f y (λ z. n (let c = times_cons y x xs in omega (arith, c, z)))))
 
--- the words after: a tree's links, and a count of pairs
+-- the words now have the links of a tree and a count of pairs, and what else they had is as it was
 pub record IsRelaid (ws now : List ℕ) (t : Tree ℕ) (count : ℕ) : Type 0 where
   pub long : length now ≡ length ws
   pub root_is : word_of now 0 1 ≡ root t

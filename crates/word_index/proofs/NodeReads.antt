@@ -40,7 +40,7 @@ has_key ws node h = record { lines = h.is.place.key_lines; bytes = h.pair.0; tex
 pub has_document : (ws : List ℕ) (node : ℕ) → HasNode ws node → HasText ws node 5 128
 has_document ws node h = record { lines = h.is.place.document_lines; bytes = h.pair.1; text = document_text ws node h.pair h.is; short = h.is.is_document.short }
 
--- packed bytes, unpacked
+-- bytes that are packed and unpacked again are these bytes
 pub unpacks : (n len : ℕ) (words bytes : List ℕ) → IsPackOf n len words bytes → ((i : ℕ) → get_or bytes i 0 < 256) → length bytes ≤ 8 * n → unpacked len words ≡ bytes
 unpacks n len words bytes is small short =
     ap (λ k. unpacked k words) is.long ∙ ap (λ ws. unpacked (length bytes) ws) is.packs ∙ unpacked-packed n bytes small short

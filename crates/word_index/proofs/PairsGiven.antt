@@ -14,7 +14,7 @@ use Rattle.word_index.proofs.Giving.{give_arranged}
 use Rattle.word_index.specs.Changes.{SameLine, with_line_given, CanGive, IsLoose, ChainGiven, LooseText, TextGiven, LoosePair, HasLoosePair, PairGiven}
 use Rattle.avl_words.specs.Tree.{Tree}
 
--- loose lines in another order
+-- loose lines may be listed in another order
 pub reordered : (ws : List ℕ) (head : RevisionHead) (store : Store) (tree : Tree ℕ) (places : List PairLayout) (given loose other : List ℕ) → ((x : ℕ) → times x other ≡ times x loose) →
     IsLaidOut ws head store tree places given loose → IsLaidOut ws head store tree places given other
 reordered ws head store tree places given loose other same a = record {
@@ -34,7 +34,7 @@ reordered ws head store tree places given loose other same a = record {
 pub loose_within : (ws : List ℕ) (head : RevisionHead) (store : Store) (tree : Tree ℕ) (places : List PairLayout) (given loose : List ℕ) → IsLaidOut ws head store tree places given loose → All (IsWithin ws) loose
 loose_within ws head store tree places given loose a = all_right (IsWithin ws) (flat_map lines_at places ++ given) loose (lines_within ws head store tree places given loose a)
 
--- the blocks of a text
+-- the blocks of a text by its length, as the code counts them, are those that its bytes need
 block_count : (len count bytes lines : ℕ) → count ≡ len / 56 + min 1 (len % 56) → len ≡ bytes → lines ≡ (bytes + 55) / 56 → count ≡ lines
 block_count len count bytes lines c e l = omega arith
 
@@ -47,7 +47,7 @@ text_given node at first len count x y z e first_is len_is counted given head st
     chain head store tree places lines others loose (subst (λ f. IsChain x f lines) first_here text.holds.chain)
     (block_count len count (length bytes) (length lines) counted (sym len_here ∙ text.long) text.holds.enough)
 
--- the document's blocks, then the key's, then the node
+-- the lines of a pair, with the blocks of its document listed first
 document_first : (x : ℕ) (place : PairLayout) → times x (place.document_lines ++ (place.node ∷ place.key_lines)) ≡ times x (lines_at place ++ [])
 document_first x place =
     omega (

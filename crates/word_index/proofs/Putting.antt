@@ -83,7 +83,7 @@ pub few_pairs : (ws : List ℕ) (head : RevisionHead) (store : Store) (tree : Tr
 few_pairs ws head store tree places given loose a =
     omega (arith, pairs_of_lines store, lines_of_places ws places store a.nodes.pairs, all_lines ws head store tree places given loose a, a.pair_count, a.end_to, a.sized.few)
 
--- room for what comes next
+-- where `more` lines can be taken, fewer can be
 pub room_less : (ws : List ℕ) (more less : ℕ) → less ≤ more → CanTake ws more → CanTake ws less
 room_less ws more less l c = record {
   head = c.head;

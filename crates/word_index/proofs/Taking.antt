@@ -15,7 +15,7 @@ use Rattle.word_index.specs.Changes.{SameLine}
 use Rattle.word_index.specs.Fresh.{HasRoom, CanTake, AreLinesTaken, LineTaken}
 use Rattle.avl_words.specs.Tree.{Tree}
 
--- the lists of lines that are from 1 on
+-- the lines of places, those given back and the loose ones are from 1 on
 pub from_one : (ws : List ℕ) (said : RevisionHead) (store : Store) (tree : Tree ℕ) (places : List PairLayout) (given loose : List ℕ) → IsLaidOut ws said store tree places given loose →
     All (λ x. 1 ≤ x) (flat_map lines_at places) × All (λ x. 1 ≤ x) given × All (λ x. 1 ≤ x) loose
 from_one ws said store tree places given loose a =
@@ -105,7 +105,7 @@ given_taken x said store tree places (g ∷ given) loose head a some is =
       long = long;
     })
 
--- what taking needs to know
+-- where lines can be taken, the end of the lines ever given is at most 2^32
 pub end_small : (x : List ℕ) (more : ℕ) → CanTake x more → word_of x 0 3 ≤ 2 ^ 32
 end_small x more c = omega (arith, c.arranged.end_to, c.arranged.sized.few)
 
@@ -119,7 +119,7 @@ head_known x said store tree places (g ∷ given) loose head a some is =
 pub head_there : (x : List ℕ) (head more : ℕ) → CanTake x more → (head ≡ 0 → ⊥) → word_of x 0 2 ≡ head → IsWithin x head × (1 ≤ word_of x 0 4)
 head_there x head more c some is = head_known x c.head c.store c.tree c.places c.given c.loose head c.arranged some is
 
--- from the words before
+-- taking the first line that was never given, as the code does where none is given back, takes that line
 pub new_line : (x y z : List ℕ) (head line : ℕ) → y ≡ x → word_of y 0 2 ≡ head → head ≡ 0 → (word_of y 0 3 ≡ line) × (z ≡ with_word 0 3 (line + 1) y) → LineTaken line x z
 new_line x y z head line e is none r said store tree places given loose a room =
     let last : word_of x 0 3 ≡ line = subst (λ w. word_of w 0 3 ≡ line) e r.0 in

@@ -26,14 +26,14 @@ Triple = (List ℕ × List ℕ) × ℕ
 abbrev pub key_of_triple : Triple → List ℕ
 key_of_triple t = t.0.0
 
--- with a document written at a key, and without the key
+-- the pairs with a document written at a key with a revision, and the pairs without a key
 abbrev pub written_at : List ℕ → List ℕ → ℕ → List Triple → List Triple
 written_at key document revision triples = triples_below key triples ++ ((key, document), revision) ∷ triples_above key triples
 
 abbrev pub removed_at : List ℕ → List Triple → List Triple
 removed_at key triples = triples_below key triples ++ triples_above key triples
 
--- pairs in two parts
+-- the pairs with their revisions in two parts are those of the one part and then those of the other
 triples_append : (ws : List ℕ) (front rest : List PairLayout) (lower others : Store) → Placed ws front lower → triples_of (front ++ rest) (lower ++ others) ≡ triples_of front lower ++ triples_of rest others
 triples_append ws [] rest [] others n = refl
 triples_append ws [] rest (q ∷ lower) others n = absurd n
@@ -60,7 +60,7 @@ module _ (ws key : List ℕ) (front rest : List PairLayout) (lower others : Stor
   right_over : All (λ (t : Triple). key_cmp key t.0.0 ≡ Less) right
   right_over = all_keys (λ k. key_cmp key k ≡ Less) rest others above
 
-  -- none
+  -- where there is no pair at the key
   apart_below : triples_below key (triples_of (front ++ rest) (lower ++ others)) ≡ left
   apart_below = ap (triples_below key) (triples_append ws front rest lower others placed) ∙ under_split key_of_triple key left right left_under right_over
 
@@ -81,7 +81,7 @@ module _ (ws key : List ℕ) (front rest : List PairLayout) (lower others : Stor
       ap (λ (ts : List Triple). option_map (λ (t : Triple). t.1) (find (λ (t : Triple). is_eq (key_cmp t.0.0 key)) ts)) (e ∙ triples_append ws front rest lower others placed)
       ∙ ap (λ o. option_map (λ (t : Triple). t.1) o) (missing_in key_of_triple key left right left_under right_over)
 
-  -- or the pair with this document
+  -- where the pair at the key has this document
   module _ (old : List ℕ) (place : PairLayout) where
     abbrev whole : List Triple
     whole = triples_of (front ++ place ∷ rest) (lower ++ (key, old) ∷ others)
@@ -103,7 +103,7 @@ module _ (ws key : List ℕ) (front rest : List PairLayout) (lower others : Stor
         ap (λ (ts : List Triple). option_map (λ (t : Triple). t.1) (find (λ (t : Triple). is_eq (key_cmp t.0.0 key)) ts)) (e ∙ triples_append ws front (place ∷ rest) lower ((key, old) ∷ others) placed)
         ∙ ap (λ o. option_map (λ (t : Triple). t.1) o) (there_in key_of_triple key here refl left right left_under)
 
-    -- the pairs with one that has another document and revision are those with this written at its key
+    -- where one pair is replaced by one with another document and revision, these are written at its key, and the other pairs are as they were
     pub triples_replaced : (document : List ℕ) (other : PairLayout) → triples_of (front ++ other ∷ rest) (lower ++ (key, document) ∷ others) ≡ written_at key document other.revision whole
     triples_replaced document other =
         triples_append ws front (other ∷ rest) lower ((key, document) ∷ others) placed ∙ sym (ap₂ (λ a b. a ++ ((key, document), other.revision) ∷ b) behind_below behind_above)

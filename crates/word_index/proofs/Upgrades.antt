@@ -128,7 +128,7 @@ upgraded_words x n w = first_words n (nodes_in_order (word_of x 0 1) x) _ (Words
 pub is_migrated : (x : List ℕ) → IsMigrated x (upgraded_in x)
 is_migrated x = record { pairs = upgraded_stands x; words = upgraded_words x }
 
--- as the code runs: a revision leaves the links of the tree
+-- storing revision 1 in a node leaves the links of the tree
 module _ (ws : List ℕ) (node : ℕ) where
   abbrev after : List ℕ
   after = with_word node 7 1 ws
@@ -170,7 +170,7 @@ module _ (ws : List ℕ) (node : ℕ) where
   pub are_noted_same : (nodes : List ℕ) (depth : ℕ) → AreNoted ws nodes depth → AreNoted after nodes depth
   are_noted_same nodes depth are p l = noted_same (get_or nodes p 0) p (are p l)
 
--- one node more, and no node left
+-- once the first of the nodes that are left has got revision 1, those behind it are left, and lead to the same last words
 pub upgrade_more : (ws more last : List ℕ) (node : ℕ) (all : List ℕ) → with_first_revisions all ws ≡ last → all ≡ node ∷ more → with_first_revisions more (with_word node 7 1 ws) ≡ last
 upgrade_more ws more last node all e is = ap (λ ns. with_first_revisions ns ws) (sym is) ∙ e
 

@@ -42,7 +42,7 @@ xor_some x y ne = by (bit_xor x y) refl
     by zero e = absurd (ne (same_from_bits x y (λ i. same_bit x y i (ap (λ n. bit_at n i) e ∙ bit_at-zero i))))
     by (suc n) e = omega arith
 
--- the lowest of them
+-- the number of trailing zeros of the exclusive or of two different words is the lowest bit in which they differ
 pub lowest : (x y t : ℕ) → x ≢ y → x < 2 ^ 64 → y < 2 ^ 64 → t ≡ trailing_zeros w64 (bit_xor x y) → (t < 64) × (bit_at (bit_xor x y) t ≡ 1) × ((i : ℕ) → i < t → bit_at (bit_xor x y) i ≡ 0)
 lowest x y t ne a b is =
     subst (λ n. (n < 64) × (bit_at (bit_xor x y) n ≡ 1) × ((i : ℕ) → i < n → bit_at (bit_xor x y) i ≡ 0)) (sym is)

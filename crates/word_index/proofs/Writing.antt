@@ -15,7 +15,7 @@ use Rattle.word_index.specs.Changes.{SameLine}
 use Rattle.word_index.specs.Fresh.{HasRoom, CanTake, LineTaken, LineFilled, IsBlock, IsChainWritten, TextWritten}
 use Rattle.avl_words.specs.Tree.{Tree}
 
--- a loose line that is filled
+-- filling a loose line leaves the pairs, and the other loose lines, as they were
 pub fill_arranged : (x y : List ℕ) (head : RevisionHead) (store : Store) (tree : Tree ℕ) (places : List PairLayout) (given loose content : List ℕ) (line : ℕ) → IsLaidOut x head store tree places given (line ∷ loose) → LineFilled line content x y →
     IsLaidOut y head store tree places given (line ∷ loose) × All (SameLine x y) loose
 fill_arranged x y head store tree places given loose content line a f =
@@ -41,7 +41,7 @@ fill_arranged x y head store tree places given loose content line a f =
       same loose alone.not_loose,
     )
 
--- words of which the last blocks are written
+-- the last `j` of the `count` blocks of some words are written, in a chain from `next` on
 abbrev pub WrittenSoFar : List ℕ → ℕ → ℕ → ℕ → List ℕ → List ℕ → Type 0
 WrittenSoFar words count j next before now =
     (head : RevisionHead) (store : Store) (tree : Tree ℕ) (places : List PairLayout) (given loose : List ℕ) → IsLaidOut before head store tree places given loose → HasRoom before places loose count →
@@ -58,7 +58,7 @@ written_none words count x y e head store tree places given loose a room =
       content = λ i l. absurd (omega arith);
     })
 
--- what the next block needs
+-- where fewer than `count` blocks are written, a line can be taken for the next one
 pub can_take_next : (words : List ℕ) (count j next : ℕ) (x y : List ℕ) → j < count → CanTake x count → WrittenSoFar words count j next x y → CanTake y 1
 can_take_next words count j next x y l c r =
     let p = r c.head c.store c.tree c.places c.given c.loose c.arranged c.room in

@@ -137,7 +137,7 @@ with_document key document words =
     then with_word 0 6 (next_revision (word_of words 0 6)) (with_written key document (next_revision (word_of words 0 6)) words)
     else words
 
--- what this answers
+-- what putting a document at a key answers
 unfoldable pub inserted_in : List ℕ → List ℕ → List ℕ → Inserted
 inserted_in key document words =
     if has_room (line_count words) (with_pair key document (store_in words))

@@ -137,7 +137,8 @@ fn next_revision<M: Memory>(mem: &mut M) -> Result<u64, Halt>
     Ok(last.saturating_add(1))
 }
 
-/// Puts a document with a revision at a key, at the node that the walk to it ended at; it needs as many lines as the old one or not.
+/// Puts a document with a revision at a key, at the node that the walk to the key ended at. Where that is a node, `alike` says whether the document
+/// needs as many blocks as the node's own.
 fn write_at<M: Memory>(
     mem: &mut M,
     key: &Key,

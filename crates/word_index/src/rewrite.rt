@@ -78,7 +78,7 @@ fn rewrite<M: Memory>(mem: &mut M, node: u64, doc: &Doc<'_>) -> Result<(), Halt>
     store_held(mem, &held)
 }
 
-/// Puts a document in place of a node's own, of as many blocks or not. `Halt` comes only where no access is left.
+/// Puts a document in place of a node's own. `alike` says whether both need the same number of blocks. `Halt` comes only where no access is left.
 pub fn exchange<M: Memory>(mem: &mut M, node: u64, doc: &Doc<'_>, alike: bool) -> Result<(), Halt>
     requires { IsStorable M.Memory mem.old (λ ws. CanExchange ws node alike (unpacked doc.now.len doc.now.words.now)) }
     ensures { Changes M.Memory mem.old mem.new result (λ _ old now. now ≡ with_rewritten (unpacked doc.now.len doc.now.words.now) node old) }
