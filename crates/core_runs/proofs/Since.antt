@@ -33,7 +33,7 @@ pub record Since (callers place n : ℕ) (l : Local) : Type 0 where
   pub code : (l.fresh ≡ false) ⊎ (place ≤ root_place_of callers l.seen_cur)
   pub reads : (i : ℕ) (x : SeenRead) → slice_get l.seen_reads i ≡ Some x → n ≤ i → place ≤ x.place
 
--- `Since` stays in a local state with the reads and the code of `l`, also where the code is not fresh any more
+-- the part of `Since` on the code holds also where `l` has the code still, and the code is not fresh any more (`b`) or as fresh as before
 module _ (callers place n : ℕ) (l : Local) (old : Since callers place n l) where
   ended : (b : Bool) → (cond b false l.fresh ≡ false) ⊎ (place ≤ root_place_of callers l.seen_cur)
   ended true = inl refl

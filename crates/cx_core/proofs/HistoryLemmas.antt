@@ -54,7 +54,7 @@ unfolding full_image
 full_stays instance history more place within =
     ap (image_from instance.step instance.base.words) (take-append-le (place - instance.base.place) history more (omega arith))
 
--- an entry that is linked in a history is so in a longer one
+-- an entry that is linked in a history is linked also in one that continues it
 pub linked_grows : (place : ℕ) (history more : List Entry) (ticket : ℕ) (entry : Entry) → IsLinked place history ticket entry → IsLinked place (history ++ more) ticket entry
 linked_grows place history more ticket entry l = record { from = l.from; at = slice_get-append_left history more (ticket - place) entry l.at }
 

@@ -73,7 +73,7 @@ module _ {Key : Type 0} where
         ));
   }
 
-  -- what a call does to a part of the words it does to the whole, where the part stands as before from `from` on; where the call halts, nothing is said
+  -- what a call does to a part of the words it does to the whole, where the part begins and ends where it did; where the call halts, nothing is said
   pub part_done : {X E : Type 0} (old new : Key → List ℕ → Type 0) (R : X → List ℕ → List ℕ → Type 0) (r : Result X E) (from len from' len' : ℕ) →
       from' ≡ from → len' ≡ len → ((first : Key) (now : List ℕ) → new first now → length now ≡ from + len) →
       IfOk r (λ x. Becomes (Inside old from len) (Inside new from' len') (R x)) → IfOk r (λ x. Becomes old new (OnPart from (R x)))

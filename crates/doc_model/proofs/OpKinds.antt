@@ -187,7 +187,7 @@ ops_same one other one_is one_amount other_is other_amount same =
     one one_is one_amount (same ∙ op_words_are other)).1
     ∙ op_again other other_amount
 
--- words that have these parts, and the operation that has them where one has
+-- of which operation, if any, words with these parts are the words
 module _ (words : List ℕ) (kind : ℕ) (key document : List ℕ) (number : ℕ) (are : words ≡ words_with kind key document number)
     (small : number < 2 ^ 64) (key_is : IsShortText 64 key) (document_is : IsShortText 1024 document) where
   pub op_found : (op : Op) → has_op kind key document number ≡ true → op ≡ op_with kind key document number → IsOpOf words op

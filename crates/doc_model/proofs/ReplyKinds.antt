@@ -189,7 +189,7 @@ replies_same one other one_is one_fits other_is other_fits same =
     one one_is one_fits (same ∙ reply_words_are other)).1
     ∙ reply_again other other_fits
 
--- words that have these parts, and the reply that has them where one has
+-- of which reply, if any, words with these parts are the words
 module _ (words : List ℕ) (kind : ℕ) (key document : List ℕ) (number : ℕ) (are : words ≡ words_with kind key document number)
     (small : number < 2 ^ 64) (key_is : IsShortText 64 key) (document_is : IsShortText 1024 document) where
   pub reply_found : (reply : Reply) → has_reply kind key document number ≡ true → reply ≡ reply_with kind key document number → IsReplyOf words reply

@@ -1,4 +1,5 @@
--- What each operation of the document store means: its reply, and the store after it. A reply depends on the pairs alone, but for those with a revision.
+-- What each operation of the document store means: its reply, and the store after it. Of the store a reply depends on the pairs alone, but for those to
+-- `PutIf` and `Rev`.
 use Rattle.std.specs.Prelude.{◌-◌, ℕ, Bool, true, false, nat_le, ◌==◌, List, [], ◌∷◌, ◌++◌, length, filter, Option, None, Some, is_some, if◌then◌else◌, ℤ, pos, ◌+ℤ◌}
 use Rattle.std.specs.Option.{option_map, option_map_or}
 use Rattle.std.specs.Ordering.{is_lt, is_eq}
