@@ -165,7 +165,7 @@ still_whole core words caller l l' whole long at follows = record {
       other x there;
 }
 
--- and so do the codes of what is downgraded in it
+-- a core stays sound where as many words are put, and a caller's local state that follows the one before
 pub still_kept : (core : Core) (words : List ℕ) (caller : ℕ) (l l' : Local) → IsSoundCore core →
     length words ≡ length core.state.words → slice_get core.state.locals caller ≡ Some l → Follows core.callers l l' →
     IsSoundCore (record core { state = record { words = words; locals = set core.state.locals caller l' } })

@@ -63,7 +63,7 @@ found_among ticket (x ∷ xs) entry some =
     ]
 
 module _ (xs : List Linked) (each : (i : ℕ) (x : Linked) → slice_get xs i ≡ Some x → (x.entry.caller < 8) × (x.ticket < 2 ^ 40)) where
-  -- so what is in order is of callers that there may be, and below 2^40
+  -- what is in order is of callers that there may be, and below 2^40
   in_order_of : (n ticket i : ℕ) (entry : Entry) → slice_get (in_order n ticket xs) i ≡ Some entry → entry.caller < 8
   in_order_of zero ticket i entry at = absurd (none-some entry at)
   in_order_of (suc n) ticket i entry at =

@@ -177,7 +177,7 @@ module _ (instance : Instance) where
     abbrev image_to : ℕ → List ℕ
     image_to place = image_after instance.step (object_part instance.base.words) (take (place - base) history)
 
-    -- it is lawful
+    -- the image at a place is lawful
     image_lawful : (place : ℕ) → lawful (image_to place)
     image_lawful place = lawful_after lawful instance.step laws.keeps (place - base) history (λ i x at. (entries_of instance to law based.numbers i x at).op) (object_part instance.base.words) based.object
 

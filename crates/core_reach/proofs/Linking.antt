@@ -82,7 +82,7 @@ module _ (instance : Instance) (caller : ℕ) (history : List Entry) (l0 : Local
     written = word_put;
   }))
 
--- so are all its words
+-- all words of an entry are written into an idle cell
 pub cell_written : (instance : Instance) (caller : ℕ) (history : List Entry) (s : State) (l : Local) → Here instance caller history s l → (j : ℕ) → j < 16 → IsIdle l j →
     (ws : List ℕ) → Words 145 ws → Reached instance caller history s (λ _ l'. Writing l j ws 145 l')
 cell_written instance caller history s l here j small idle ws fit =

@@ -116,7 +116,7 @@ module _ (instance : Instance) (caller : ℕ) where
         holds = rest.holds;
       }
 
-  -- so many steps or runs, each of which makes the next fact of the last
+  -- where fact i holds, and some run leads from each fact to the next one, some run leads to the last fact
   pub each_of : (Q : ℕ → State → Local → Type 0) (history : List Entry) (total : ℕ) →
       ((i : ℕ) (s : State) (l : Local) → i < total → Here instance caller history s l → Q i s l → Reached instance caller history s (Q (i + 1))) →
       (n i : ℕ) → i + n ≡ total → (s : State) (l : Local) → Here instance caller history s l → Q i s l → Reached instance caller history s (Q total)

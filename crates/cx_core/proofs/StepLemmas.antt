@@ -20,7 +20,7 @@ none_behind : (front part behind : List ℕ) (from len : ℕ) → length front �
 none_behind front part behind from len f l whole =
     nil_from_length behind (omega (arith, length-append (front ++ part) behind, length-append front part))
 
--- then the middle is what comes from its beginning on
+-- where nothing is behind the middle, the middle is what comes from its beginning on
 drop_front : (front part behind : List ℕ) (from : ℕ) → length front ≡ from → behind ≡ [] → drop from (front ++ part ++ behind) ≡ part
 drop_front front part behind from f e =
     ap (drop from) (append_assoc front part behind ∙ ap (λ xs. front ++ (part ++ xs)) e)
