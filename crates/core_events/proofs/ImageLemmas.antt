@@ -127,7 +127,7 @@ pub history_few : (place : ℕ) (locals : List Local) → HasEntries locals → 
 unfolding history_of
 history_few place locals has below = in_order_few (all_own locals) (own_each locals has) (length (all_own locals)) place below
 
--- the entries with tickets below a place are of them
+-- where all entries of a history are of callers that there may be, so are its first ones
 pub take_callers : (n : ℕ) (history : List Entry) → OfCallers history → OfCallers (take n history)
 take_callers n history of i entry at = of i entry (slice_get-take n history i entry at)
 

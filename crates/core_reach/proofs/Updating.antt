@@ -32,7 +32,7 @@ pub record Answered (own : List Linked) (l : Local) : Type 0 where
   pub all : length l.answered ≡ length l.own
   pub rests : HoldsNone l
 
--- some run leads to it
+-- some run leads to a state in which a caller's entries are each answered, and it holds no replica
 is_answered : (instance : Instance) (caller : ℕ) (history : List Entry) (own : List Linked) (s : State) (l : Local) → Here instance caller history s l → l.own ≡ own → 0 < length instance.base.words →
     Reached instance caller history s (λ _ l'. Answered own l')
 is_answered instance caller history own s l here same some =

@@ -101,7 +101,7 @@ step_of_changes step entry place reply ws a b c d at_place done number reply_put
     }
 
 module _ {Key : Type 0} where
-  -- what these five do to the pairs that stand
+  -- what the five changes of a full step, one after another, do to the words that may stand
   pub full_step_done : {old m₁ m₂ m₃ m₄ new : Key → List ℕ → Type 0} (step : List ℕ → List ℕ → List ℕ × List ℕ) (entry : Entry) (place slot : ℕ) (reply : List ℕ) →
       slot ≡ slot_start entry.caller →
       Loaded 0 place old m₁ →

@@ -118,7 +118,7 @@ reply_to lines store Count = Number (length (pairs_in store))
 reply_to lines store (PutIf key revision document) = put_if_reply lines store key revision document
 reply_to lines store (Rev key) = option_map_or Revision (revision_at key store) Absent
 
--- the store after it
+-- the store after an operation, in a store that has the given number of lines
 abbrev pub store_after : ℕ → RevisedStore → Op → RevisedStore
 store_after lines store (Put key document) = store_after_put lines store key document
 store_after lines store (Del key) = removed key store
