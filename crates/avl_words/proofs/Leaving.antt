@@ -237,7 +237,8 @@ module _ (ws nodes sides : List ℕ) (depth node left right : ℕ) (way : List (
     pub least_within : (m : ℕ) → (least [] p.c p.z p.d).item ≡ m → IsWithin ws m
     least_within m is = subst (IsWithin ws) is (least_is_there ws nodes sides depth way p.a p.y p.b p.x p.c p.z p.d e.stands e.balanced e.once e.low).0.within
 
-    -- with the least node in its place on the way, and the left child linked to it, the node is out: what was below the least node is to hang there
+    -- With the least node in its place on the way, and the left child linked to it, the node is out: the right child of the least node is to hang where
+    -- the least node was.
     pub raised : (nodes_now sides_now : List ℕ) (depth_now m rest : ℕ) (now : List ℕ) → length nodes_now ≡ 64 →
         IsLeastNode nodes_now sides_now depth_now m (record { side = 1; item = p.x; sibling = Node p.a p.y p.b } ∷ way) p.c p.z p.d → word_of ws m 1 ≡ rest → now ≡ with_word m 0 left ws →
         IsNodeOut ws now (set nodes_now depth m) sides_now depth_now depth rest way here
@@ -258,7 +259,7 @@ module _ (ws nodes sides : List ℕ) (depth node left right : ℕ) (way : List (
         (subst (λ k. IsGone ws now (set nodes_now depth m) sides_now depth_now depth k (q.way ++ up) q.rest) rest_is
         (subst (λ v. IsGone ws v (set nodes_now depth m) sides_now depth_now depth (root q.rest) (q.way ++ up) q.rest) words (record { hung = hung; settled_way = settled; but = but })))
 
--- the end of a walk at a node that is there, as what is known of the words at it
+-- where a walk ended at a node with these two links, the way to it is noted, and the tree there is at the way's end
 pub at_end : (ws nodes sides : List ℕ) (order : ℕ → Ordering) (depth node left right : ℕ) (t : Tree ℕ) → IsThere ws nodes sides order depth node t → word_of ws node 0 ≡ left → word_of ws node 1 ≡ right →
     IsAtEnd ws nodes sides depth node left right (spot order [] t).0 (spot order [] t).1
 at_end ws nodes sides order depth node left right t i l r =
@@ -302,7 +303,7 @@ pub takes : (ws mid now last nodes sides nodes_now sides_now : List ℕ) (depth 
 takes ws mid now last nodes sides nodes_now sides_now depth node left right depth_now rest high top l r u tall m e order t i =
     e ∙ out_words ws mid now nodes_now sides_now depth_now depth rest high top (spot order [] t).0 (spot order [] t).1 (not_empty (spot order [] t).1 node i.spot.node_is i.some) (u order t i l r) tall m
 
--- the way to a node that was taken out so far can be mended with the tree that is to hang in its place
+-- once a node is out but for the tree that is to hang in its place, the way can be mended with that tree
 out_hung : (ws mid nodes sides : List ℕ) (depth settled rest high : ℕ) (way : List (Turn ℕ)) (here : Tree ℕ) → here ≢ Empty → IsNodeOut ws mid nodes sides depth settled rest way here → high_of rest mid ≡ high → CanMend mid nodes sides depth settled rest high
 out_hung ws mid nodes sides depth settled rest high way Empty n o tall = absurd (n refl)
 out_hung ws mid nodes sides depth settled rest high way (Node l x r) n o tall = record { way = gone_way way l r; tree = gone_rest l r; hung = o.hung; high_is = tall; settled_way = o.settled_way }
@@ -362,7 +363,7 @@ descending_deep ws nodes sides depth node nodes_now sides_now depth_now node_now
     let r = descending_room ws nodes_now sides_now depth_now node_now depth h.way h.left h.item h.right (o h.way h.left h.item h.right h.below) h.below.long h.room in
     absurd (omega arith)
 
--- the walk's end where the node has these two links, as what is known of the words at it
+-- where a node with these two links can be taken out, the way to it is noted, and the tree there is at the way's end
 end_of : (ws nodes sides : List ℕ) (depth node left right : ℕ) (h : HasTwo ws nodes sides depth node left right) → IsAtEnd ws nodes sides depth node left right (spot h.can.order [] h.can.tree).0 (spot h.can.order [] h.can.tree).1
 end_of ws nodes sides depth node left right h = at_end ws nodes sides h.can.order depth node left right h.can.tree h.can.there h.left_is h.right_is
 

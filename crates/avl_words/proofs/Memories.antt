@@ -22,7 +22,7 @@ always_kept {P = P} all b first now s = (let p = b.from first now s in subst P p
 pub always_said : {Key : Type 0} {old new : Key → List ℕ → Type 0} {P : List ℕ → Type 0} → Reads old new P → Always new P
 always_said r first now s = (r.from first now s).1
 
--- what a function makes of words with `P` holds after a reading that found `P` and a change by that function
+-- where a function makes words with `Q` of words with `P`, `Q` holds after a reading that found `P` and a change by that function
 pub always_set : {Key : Type 0} {old mid new : Key → List ℕ → Type 0} {P : List ℕ → Type 0} (F : List ℕ → List ℕ) (Q : List ℕ → Type 0) →
     Reads old mid P → Becomes mid new (λ y z. z ≡ F y) → ((ws : List ℕ) → P ws → Q (F ws)) → Always new Q
 always_set F Q r b w first now s = (let q = b.from first now s in subst Q (sym q.2) (w q.0 (r.from first q.0 q.1).1))

@@ -50,7 +50,7 @@ once_more n k t none once =
       | inr ne ↦ (let o = times_other n k ne in omega (arith, once, o))
     ]
 
--- its words are the only ones
+-- where a tree was made of the old one and the header names its root, the words are those before with the new tree
 pub made_words : (ws now : List ℕ) (old new : Tree ℕ) (top : ℕ) → ((line : ℕ) → times line old ≤ times line new) → IsTreeMade ws now old new top → with_word 0 1 top now ≡ with_tree new ws
 unfolding with_tree
 made_words ws now old new top le m =

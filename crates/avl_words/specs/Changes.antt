@@ -24,7 +24,7 @@ pub record CanPut (words nodes sides : List ℕ) (depth node : ℕ) : Type 0 whe
   pub tree : Tree ℕ
   pub beside : IsBeside words nodes sides order depth node tree
 
--- in each tree that stood before, the leaf is put where the walk ended, and the words now are those with the links of that tree
+-- in each tree that stood before, the leaf is put where the walk ended, and the words now are those with the links of the tree with it
 abbrev pub PutsNode : List ℕ → List ℕ → ℕ → ℕ → List ℕ → List ℕ → Type 0
 PutsNode nodes sides depth node before now =
     (order : ℕ → Ordering) (t : Tree ℕ) → IsBeside before nodes sides order depth node t → now ≡ with_tree (with_new order node t) before

@@ -50,13 +50,13 @@ pub record IsNodeOpen (words : List ℕ) (l : Tree ℕ) (x : ℕ) (r : Tree ℕ)
   pub once : (line : ℕ) → times line (Node l x r) ≤ 1
   pub low : height (Node l x r) ≤ 2 ^ 32
 
--- another tree of the lines of the old one stands now, with this root, and no words changed but the links and heights of these lines
+-- a new tree stands now, with this root, and no words changed but the links and heights of the old tree's nodes
 pub record IsTreeMade (before now : List ℕ) (old new : Tree ℕ) (node : ℕ) : Type 0 where
   pub stands : RepresentsTree now new
   pub root_is : root new ≡ node
   pub but : SameExcept before now old
 
--- another tree of the lines of the old one stands now, with this root and this height, and no words changed but the links and heights of these lines
+-- a new tree stands now, with this root and this height, and no words changed but the links and heights of the old tree's nodes
 pub record IsHigh (before now : List ℕ) (old new : Tree ℕ) (node high : ℕ) : Type 0 where
   pub made : IsTreeMade before now old new node
   pub high_is : height new ≡ high

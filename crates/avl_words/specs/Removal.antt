@@ -4,14 +4,14 @@ use Rattle.std.specs.declared.cmp.Ordering.{Ordering}
 use Rattle.avl_words.specs.Tree.{Tree, Empty, Node}
 use Rattle.avl_words.specs.Ways.{Turn, mended, spot}
 
--- the way to the least node below a node, that node, and its right child
+-- the way to the least node of a tree, that node, and its right child
 pub record Least (A : Type 0) : Type 0 where
   pub way : List (Turn A)
   pub item : A
   pub rest : Tree A
 
 module _ {A : Type 0} where
-  -- the least node below a node, with the way to it
+  -- the least node of the tree with these children and this root, with the way to it and its right child
   abbrev pub least : List (Turn A) → Tree A → A → Tree A → Least A
   least way Empty x r = record { way = way; item = x; rest = r }
   least way (Node a y b) x r = least (record { side = 0; item = x; sibling = r } ∷ way) a y b
@@ -24,7 +24,7 @@ module _ {A : Type 0} where
   gone_way way (Node a y b) (Node c z d) =
       (least [] c z d).way ++ record { side = 1; item = (least [] c z d).item; sibling = Node a y b } ∷ way
 
-  -- the tree that is to hang there: the node's one child, or the right child of the least node behind it
+  -- The tree that is to hang there (`gone_way`) once a node is taken out: the node's one child or none, or the right child of the least node behind it.
   abbrev pub gone_rest : Tree A → Tree A → Tree A
   gone_rest Empty r = r
   gone_rest (Node a y b) Empty = Node a y b

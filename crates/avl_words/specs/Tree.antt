@@ -11,7 +11,7 @@ pub record IsLevel (l r : ℕ) : Type 0 where
   pub left : l ≤ r + 1
   pub right : r ≤ l + 1
 
--- the other side
+-- the side opposite to a side: 0 is the left, 1 the right
 abbrev pub other : ℕ → ℕ
 other zero = 1
 other (suc _) = 0

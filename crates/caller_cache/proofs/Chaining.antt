@@ -136,7 +136,7 @@ leads_by : (ls : List Local) (from : ℕ) (codes : List ℕ) (to : ℕ) → Lead
 leads_by ls from [] to leads = leads
 leads_by ls from (code ∷ codes) to leads = (let w = leads.1 in (leads.0, won_at ls w.caller w.local _ w.of_caller w.won, leads_by ls code codes to leads.2))
 
--- the wins that are shown lead as well
+-- where a caller has a local state, a seat shows that without the words of the replica held exclusively
 shown_at : (ls : List Local) (c : ℕ) (l : Local) → slice_get ls c ≡ Some l → slice_get (map shown ls) c ≡ Some (shown l)
 shown_at [] c l at = absurd (none-some l at)
 shown_at (x ∷ ls) zero l at = ap (λ (y : Local). Some (shown y)) (same_Some x l at)

@@ -35,7 +35,7 @@ place_more : (place : ℕ) (accesses : List Note) (stores : Bool) (at word : ℕ
 place_more place [] stores at word = refl
 place_more place ((s, a, w) ∷ accesses) stores at word = place_more (cond (a == 0) w place) accesses stores at word
 
--- what the accesses tell they tell after a load more, and after a store elsewhere
+-- accesses with a load more at their end tell of a place what they told before
 tells_load : (region : ℕ) (accesses : List Note) (i v at word : ℕ) → TellsWord region accesses at word → TellsWord region (accesses ++ (false, i, v) ∷ []) at word
 tells_load region accesses i v at word tells first now long leads = tells first now long (led_by_load accesses i v first now leads).0
 

@@ -65,7 +65,7 @@ blank_rows n row l is blank = record {
       ∙ ap (λ (c : Cell). get_or (row c) i 0) (sym (ap (λ (cs : List Cell). get_or cs j no_cell) is ∙ get_or-replicate 16 j blank_cell no_cell small));
 }
 
--- and what it keeps in plain memory
+-- the copy that an opening seat keeps in plain memory is one of what its caller knows
 pub opening_copied : (me : Me ℕ (List Known)) (copy : Copied) (callers place number region : ℕ) (limits : List ℕ) → me ≡ (opening_known callers place limits number ∷ [], []) → copy ≡ blank_copy region → IsCopied (known_of me.0) copy
 opening_copied me copy callers place number region limits is blank =
     let one = one_caller me (opening_known callers place limits number) is in

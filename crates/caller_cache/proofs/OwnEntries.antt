@@ -118,7 +118,7 @@ read_is l cells j shape has small =
     let first : slice_index cells (145 * j) ≡ slice_index words 0 = ap (slice_index cells) (let same : 145 * j ≡ 145 * j + 0 = omega arith in same) ∙ has.each j 0 small (omega arith) in
     λ k. record { caller = l.number; number = first k; op = ops k }
 
--- so what a seat reads of a cell that has a ticket is the own entry with it
+-- what a seat reads of a cell that has a ticket is the own entry with that ticket
 pub own_read : (me : Me ℕ (List Known)) (summary : CachedLocal) (before : ℕ) (copy : Copied) (j ticket : ℕ) (e : Entry) → HasSummary me summary before → IsCopied (known_of me.0) copy → j < 16 → (cell_of (known_of me.0).local j).ticket ≡ Some ticket →
     e.caller ≡ summary.number → e.number ≡ slice_index copy.cells (145 * j) → e.op ≡ slice_range copy.cells (145 * j + 1) (145 * j + 145) → IsOwnEntry (known_of me.0).local.own (known_of me.0).local.number ticket e
 own_read me summary before copy j ticket e has copied small at caller number op =

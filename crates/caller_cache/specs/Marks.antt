@@ -11,11 +11,11 @@ MarksMore marks from n before after =
 abbrev pub IsInLines : List Bool → ℕ → ℕ → Type 0
 IsInLines lines first at = (first ≤ at / 8) × (slice_index_or lines (at / 8) false ≡ true)
 
--- an address is listed, or lies in such a line
+-- an address is listed, or lies in a marked line that is not below the first
 abbrev pub IsCovered : List ℕ → List Bool → ℕ → ℕ → Type 0
 IsCovered listed lines first at = Contains listed at ⊎ IsInLines lines first at
 
--- each marked word is listed, or lies in such a line
+-- each marked word is listed, or lies in a marked line that is not below the first
 pub record AreCovered (marks : List Bool) (listed : List ℕ) (lines : List Bool) (first : ℕ) : Type 0 where
   pub long : length marks ≤ 8 * length lines
   pub short : 8 * length lines ≤ length marks + 8

@@ -115,7 +115,7 @@ impl Copies {
         self.sets[(SET_WORDS as u64 * j + i) as usize]
     }
 
-    /// Keeps in `words` the write set of the caller's entry at `ticket`, in place of the set kept before. `words` is room for a set then.
+    /// Keeps the set that stands in `words`, as that of the caller's entry at `ticket`, in place of the one before. `words` is room for a set then.
     pub fn keep(&mut self, ticket: u64, words: &mut Vec<u64>)
         requires { IsSetList words.old.items }
         ensures kept { self.new ≡ record self.old { kept = Some (record { ticket = ticket; set = words.old.items }) } }

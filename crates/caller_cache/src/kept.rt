@@ -39,7 +39,7 @@ impl Kept {
         })
     }
 
-    /// Keeps in `words` the write set of the caller's entry at `ticket`, in place of the set kept before. `words` is room for a set then.
+    /// Keeps the set that stands in `words`, as that of the caller's entry at `ticket`, in place of the one before. `words` is room for a set then.
     pub(crate) fn put(&mut self, ticket: u64, words: &mut Vec<u64>)
         requires { IsSetList words.old.items }
         ensures kept { self.new ≡ Some (record { ticket = ticket; set = words.old.items }) }

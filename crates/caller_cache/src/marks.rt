@@ -18,9 +18,9 @@ pub(crate) struct Marks {
     marks: Vec<bool>,
     /// The addresses marked since the list was last turned into marks of lines.
     listed: Vec<u64>,
-    /// For each line, whether words may lie in it that were marked before the list was last turned into marks of lines.
+    /// For each line, whether marked words that are not listed may lie in it.
     lines: Vec<bool>,
-    /// No line below this one has a mark.
+    /// The line from which on each marked word lies that is not listed.
     first: usize,
 }
 

@@ -26,7 +26,7 @@ use Rattle.cx_core.specs.State.{Core, EachLocal, EachScene, IsWhole, Instance, S
 use Rattle.cx_core.proofs.StateLemmas.{opening_at, opening_whole}
 use Rattle.cx_core.proofs.ListLemmas.{set_here, slice_get-append, slice_get-set_same, slice_get-set_other}
 
--- no step changes a caller's number
+-- where two local states have a number, the one that is chosen of them has it
 either-number : (b : Bool) (x y : Local) (n : ℕ) → x.number ≡ n → y.number ≡ n → (cond b x y).number ≡ n
 either-number true x y n p q = p
 either-number false x y n p q = q
@@ -165,7 +165,7 @@ still_whole core words caller l l' whole long at follows = record {
       other x there;
 }
 
--- and so do the codes of what is downgraded in it
+-- a core stays sound where as many words are put, and a caller's local state that follows the one before
 pub still_kept : (core : Core) (words : List ℕ) (caller : ℕ) (l l' : Local) → IsSoundCore core →
     length words ≡ length core.state.words → slice_get core.state.locals caller ≡ Some l → Follows core.callers l l' →
     IsSoundCore (record core { state = record { words = words; locals = set core.state.locals caller l' } })
@@ -204,7 +204,7 @@ pub IfOk-then : {X E : Type 0} (r : Result X E) (P Q : X → Type 0) → IfOk r 
 IfOk-then (Ok x) P Q p f = f x p
 IfOk-then (Err e) P Q p f = tt
 
--- a step that was made by facts that hold in its state is the caller's step there, where the words are read from elsewhere
+-- where the facts hold in a core's state, what a step by them did, made or refused, is what it does there; `words` are the core's words
 pub did_here : {E : Type 0} (core : Core) (step : List ℕ → List ℕ → List ℕ × List ℕ) (reads : List ℕ → Bool) (facts : HistoryFacts) (event : Event) (words words' : List ℕ) (l l' : Local) (r : Result Bool E) →
     words ≡ core.state.words → slice_get core.state.locals event.caller ≡ Some l →
     ((x : Local) → slice_get core.state.locals event.caller ≡ Some x → Tells facts (instance_of core step reads) (scene_of (instance_of core step reads) core.state) event.kind x) →

@@ -63,7 +63,7 @@ found_among ticket (x ∷ xs) entry some =
     ]
 
 module _ (xs : List Linked) (each : (i : ℕ) (x : Linked) → slice_get xs i ≡ Some x → (x.entry.caller < 8) × (x.ticket < 2 ^ 40)) where
-  -- so what is in order is of callers that there may be, and below 2^40
+  -- what is in order is of callers that there may be, and below 2^40
   in_order_of : (n ticket i : ℕ) (entry : Entry) → slice_get (in_order n ticket xs) i ≡ Some entry → entry.caller < 8
   in_order_of zero ticket i entry at = absurd (none-some entry at)
   in_order_of (suc n) ticket i entry at =
@@ -127,7 +127,7 @@ pub history_few : (place : ℕ) (locals : List Local) → HasEntries locals → 
 unfolding history_of
 history_few place locals has below = in_order_few (all_own locals) (own_each locals has) (length (all_own locals)) place below
 
--- the entries with tickets below a place are of them
+-- where all entries of a history are of callers that there may be, so are its first ones
 pub take_callers : (n : ℕ) (history : List Entry) → OfCallers history → OfCallers (take n history)
 take_callers n history of i entry at = of i entry (slice_get-take n history i entry at)
 

@@ -40,7 +40,7 @@ abbrev pub AllowsGapNote : Bool → Instance → Scene → ℕ → ℕ → ℕ �
 AllowsGapNote gap instance scene s i v = IsTrue gap ↔ CanNoteGap instance scene.history s i v
 
 -- These facts are what a step of a kind has to know of the history: of one that ends an exclusive right, whether the words held are the full image
--- after their place; of a raise, an offer and a note of a gap what stands above.
+-- after their place; of a raise `TellsRaise`, of an offer `TellsOfferWord`, of a note of a gap `AllowsGapNote`; of any other nothing.
 abbrev pub Tells : HistoryFacts → Instance → Scene → Kind → Local → Type 0
 Tells facts instance scene (Downgrade r) l = TellsFull facts.full instance scene (Downgrade r) l
 Tells facts instance scene (ReleaseExclusive r) l = TellsFull facts.full instance scene (ReleaseExclusive r) l

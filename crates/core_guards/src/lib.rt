@@ -5,9 +5,9 @@
 //! their own, so that a wrong edit of one is tried without proving the machine again.
 //!
 //! - Each question that a guard asks of a caller's local state is its definition, in a file by the word that is stepped on. The must-fail edits show it
-//!   of a downgrade with a dirty word, a win retired before its own raise, a replica loaded after its right was released, a set offered without
-//!   its test, a set read under an unconfirmed protection, one read that is offered with another ticket, and a gap noted over a changed word; the
-//!   rows of `event_tests` show it of each guard failing for one reason.
+//!   of four: a downgrade with a dirty word, a win retired before its own raise, a replica loaded after its right was released, and a gap noted over
+//!   a changed word. The rows of `event_tests` show guards that fail for one reason each, also those without an edit: a set offered whose pairs do
+//!   not lead to its entry's full step, a set read under an unconfirmed protection, and a set read whose offer word names another ticket.
 #![tactic(auto)]
 
 pub mod answers;

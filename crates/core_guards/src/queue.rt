@@ -10,7 +10,7 @@ use cx_base::{OP_WORDS, link_cell, link_ticket};
 use cx_core::layout::{CELLS, cell_count};
 use cx_core::{Base, Entry, Local, OBJECT_START, Protection, SeenSlot, slot_start};
 
-/// Whether a caller's cell `j` may be written: it was never linked, or its ticket is below the greatest FREE found.
+/// Whether a caller's cell `j` may be written: it was not linked since it was last written, or its ticket is below the greatest FREE found.
 pub fn is_idle(local: &Local, j: u64) -> bool
     requires { j < 16 }
     ensures { IsTrue result ↔ IsIdle local.now j }

@@ -82,7 +82,7 @@ made_or_not s (Read c i) = elim (cases_lt c (length s.locals)) [
 ]
 
 module _ (instance : Instance) where
-  -- it stays so
+  -- an operation that took effect has taken effect in each state that a run leads to
   pub still_made : (from to : State) (events : List Event) (o : Operation) → Lawful instance from → Run instance from events to → TookEffect from o → TookEffect to o
   still_made from to events (Update c i) law run made =
       let law' = run_kept instance from events to law run in
@@ -108,7 +108,7 @@ module _ (instance : Instance) where
       let locals : t.locals ≡ t'.locals = m.locals ∙ ap (λ x. set s.locals event.caller (local_after instance (scene_of instance s) event.kind x)) l ∙ sym m'.locals in
       ap (λ ws. let u : State = record { words = ws; locals = t.locals } in u) words ∙ ap (λ ls. let u : State = record { words = t'.words; locals = ls } in u) locals
 
-  -- so a run goes on from the state that a prefix of it reaches
+  -- a run goes on from the state that a prefix of it reaches
   pub runs_on : (x y : List Event) (from mid to : State) → Run instance from x mid → Run instance from (x ++ y) to → Run instance mid y to
   runs_on [] y from mid to first whole = subst (λ (s : State). Run instance s y to) (sym first) whole
   runs_on (e ∷ x) y from mid to first whole =

@@ -177,7 +177,7 @@ module _ (instance : Instance) where
     abbrev image_to : ℕ → List ℕ
     image_to place = image_after instance.step (object_part instance.base.words) (take (place - base) history)
 
-    -- it is lawful
+    -- the image at a place is lawful
     image_lawful : (place : ℕ) → lawful (image_to place)
     image_lawful place = lawful_after lawful instance.step laws.keeps (place - base) history (λ i x at. (entries_of instance to law based.numbers i x at).op) (object_part instance.base.words) based.object
 
@@ -340,7 +340,7 @@ module _ (instance : Instance) where
         };
       }
 
--- the opening state is such
+-- in the opening state no caller has an entry or an answered read
 opening_unmade_of : (n place : ℕ) (callers : List ℕ) (c : ℕ) (l : Local) → slice_get (map (opening_local n place) callers) c ≡ Some l → (l.own ≡ []) × (l.seen_reads ≡ [])
 opening_unmade_of n place [] c l at = absurd (none-some l at)
 opening_unmade_of n place (caller ∷ callers) zero l at = (let same = same_Some (opening_local n place caller) l at in (ap (λ (x : Local). x.own) (sym same), ap (λ (x : Local). x.seen_reads) (sym same)))

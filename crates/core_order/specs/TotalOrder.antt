@@ -77,6 +77,6 @@ pub record HasOrder (instance : Instance) (from : State) (events : List Event) (
 abbrev pub IsUnmade : State → Type 0
 IsUnmade s = EachLocal s.locals (λ _ l. (l.own ≡ []) × (l.seen_reads ≡ []))
 
--- each run from such a state has such a list
+-- the operations of each run from a lawful state in which none took effect have an order
 abbrev pub RunsHaveOrder : Instance → Type 0
 RunsHaveOrder instance = (events : List Event) (from to : State) → Lawful instance from → IsUnmade from → Run instance from events to → HasOrder instance from events to

@@ -93,7 +93,7 @@ slot_still instance words words' seen same up old = record {
   stands = λ some live. same ∙ old.stands some (omega arith);
 }
 
--- the same words of the links and the cells, where FREE did not fall
+-- the part on cells stays where a word outside the links and the cells is put, and FREE does not fall
 pub cells_words : (instance : Instance) (history : List Entry) (words : List ℕ) (locals : List Local) (at v : ℕ) → Cells instance history words locals → Shape instance words locals →
     slice_index words free_at ≤ slice_index (set words at v) free_at → IsOff (link_at instance.callers 0) (4 + 10563 * instance.callers) at → Cells instance history (set words at v) locals
 cells_words instance history words locals at v cells shape up off =

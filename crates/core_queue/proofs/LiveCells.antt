@@ -71,7 +71,7 @@ pub record ShownLive (instance : Instance) (s : State) (history : List Entry) (k
   pub live : slice_index s.words free_at ≤ t
   pub named : named_cell instance s t ≡ k
 
--- so is a ticket that the slot last looked at shows, where the caller's protection keeps it
+-- a ticket that the slot last looked at shows is live where the caller's protection keeps it
 pub shown_live : (instance : Instance) (s : State) (history : List Entry) → QueueLawful instance history s.words s.locals → (caller : ℕ) (l : Local) → slice_get s.locals caller ≡ Some l → (k t : ℕ) →
     ShowsTicket instance.callers l.seen_slot t k → Protects t l.protection → ShownLive instance s history k t
 shown_live instance s history law caller l at k t shows_ticket protects =

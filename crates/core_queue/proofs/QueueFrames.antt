@@ -104,7 +104,7 @@ queue_loaded instance history words locals place caller l l' law there number ti
       ring = ring;
     })
 
--- those parts of a lawful state
+-- a lawful state is lawful in all that concerns the queue
 pub queue_of : {instance : Instance} {s : State} (law : Lawful instance s) → QueueLawful instance law.history s.words s.locals
 queue_of law = record { shape = law.shape; tickets = law.tickets; links = law.links; cells = law.cells; fronts = law.fronts; ring = law.ring }
 

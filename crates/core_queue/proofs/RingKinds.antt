@@ -39,7 +39,7 @@ confirmed_need found Unprotected = refl
 confirmed_need found (Stated q) = elim (nat_le found q) as (λ b. need_word (cond b (Confirmed q) (Stated q)) ≡ q) [ true ↦ refl | false ↦ refl ]
 confirmed_need found (Confirmed q) = refl
 
--- it is confirmed where it was, or where LOW is at most its place
+-- a protection is confirmed after LOW was found only where it was before, or where LOW is at most its place
 confirmed_open : (found : ℕ) (o : Protection) (p : ℕ) → confirmed_by found o ≡ Confirmed p → (found ≤ p) ⊎ (o ≡ Confirmed p)
 confirmed_open found Unprotected p is = absurd (cc)
 confirmed_open found (Stated q) p is =

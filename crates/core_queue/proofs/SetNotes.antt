@@ -39,7 +39,7 @@ stored_same (suc n) one two region same =
     ∙ ap (λ a. set (stored n one region) a (slice_index two (2 * n + 2))) (same (2 * n + 1) (omega arith) (omega arith))
     ∙ ap (λ v. set (stored n one region) (slice_index one (2 * n + 1)) v) (same (2 * n + 2) (omega arith) (omega arith))
 
--- so a set with the same words leads on as it does
+-- a set with the same words as a write set is a write set between the same regions
 set_same : (one two before after : List ℕ) → slice_index two 0 ≡ slice_index one 0 → ((i : ℕ) → i < 2 * slice_index one 0 + 1 → slice_index two i ≡ slice_index one i) → IsWriteSet one before after → IsWriteSet two before after
 set_same one two before after count same w = record {
   few = subst (λ n. n ≤ 256) (sym count) w.few;

@@ -64,7 +64,7 @@ module _ (instance : Instance) (s : State) (history : List Entry) (law : QueueLa
   slot_small : ticket % cell_count instance.callers < cell_count instance.callers
   slot_small = mod_below ticket (cell_count instance.callers) (omega (arith, law.shape.some))
 
-  -- they lie between the words of links and the replicas
+  -- the words of a ticket lie from the first link word on and before the ring of gaps
   between : (a : ℕ) → IsWordOf instance s ticket a → (link_at instance.callers 0 ≤ a) × (a < gaps_at instance.callers)
   between a (In_slot e) = (let slot = slot_small in (omega (arith, e), omega (arith, e, slot)))
   between a (In_cell i below e) = (let cell = cell_small in (omega (arith, e), omega (arith, e, cell, below)))

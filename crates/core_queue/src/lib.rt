@@ -24,8 +24,8 @@
 //! - Where no number in the base is above its place, each entry of the history is one that a lawful base may take at its place:
 //!   `entries_are_lawful`.
 //!
-//! The functions of these two and of `core_runs` have empty bodies, so no must-fail edit of code can stand here; those of the guards stand
-//! in `core_guards`.
+//! The functions of this crate, of `core_replica` and of `core_runs` have empty bodies, so no must-fail edit of code can stand here; those of the
+//! guards stand in `core_guards`.
 #![tactic(auto)]
 
 pub mod entries;

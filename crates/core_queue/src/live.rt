@@ -35,7 +35,7 @@ pub fn protected_tickets_are_live()
         KeepsTicket s caller t → IsLinked instance.base.place history t e → IsLiveIn instance s history t e }
 {}
 
-/// No event stores to a word of such a ticket's cell, nor changes the ticket's link slot.
+/// No event stores to a word of the cell of a linked ticket that a caller's protection keeps, nor changes the ticket's link slot.
 pub fn protected_cells_stay()
     ensures { (instance : Instance) (history : _) (before after : State) (event : _) (caller t : ℕ) (e : _) → QueueLawful instance history before.words before.locals →
         KeepsTicket before caller t → IsLinked instance.base.place history t e → Makes instance event before after → CellStays instance before after t }

@@ -39,7 +39,7 @@ put_cases l l' j k cell cells =
       | inr ne ↦ inr (is ∙ get_or-set_other l.cells j k cell blank ne)
     ]
 
--- so it stays where cells and own list are as they were, and where a cell is put that keeps its ticket or has none
+-- a caller that knows its cells does so where its cells and its own entries are as they were
 same_known : (l l' : Local) → Knows l → l'.own ≡ l.own → l'.cells ≡ l.cells → Knows l'
 same_known l l' knows own cells = record {
   each = λ k ticket is. (
@@ -96,7 +96,7 @@ known_next instance scene (Offer j) l found knows =
     put_known l (next instance scene (Offer j) l found) j (record (cell_of l j) { offer = offer_of (cell_of l j).ticket (cell_of l j).offer }) knows refl refl (knows.each j)
 known_next instance scene kind l found knows = same_known l (next instance scene kind l found) knows refl refl
 
--- it holds of each caller
+-- each caller knows its cells
 abbrev pub AllKnow : State → Type 0
 AllKnow s = EachLocal s.locals (λ _ l. Knows l)
 

@@ -47,11 +47,11 @@ module _ (instance : Instance) (caller : ℕ) (history : List Entry) (l0 : Local
   abbrev put : Kind
   put = WriteCell j i (slice_index ws i)
 
-  -- the caller's local state after it
+  -- the caller's local state after word i is written
   abbrev put_local : Local
   put_local = record l { cells = written l j i (slice_index ws i); fresh = false; steps = one_more l.steps }
 
-  -- the cell after it
+  -- cell j after word i is written: it has no ticket
   abbrev put_cell : Cell
   put_cell = record (cell_of l j) { words = set (cell_of l j).words i (slice_index ws i); ticket = None }
 
@@ -82,7 +82,7 @@ module _ (instance : Instance) (caller : ℕ) (history : List Entry) (l0 : Local
     written = word_put;
   }))
 
--- so are all its words
+-- all words of an entry are written into an idle cell
 pub cell_written : (instance : Instance) (caller : ℕ) (history : List Entry) (s : State) (l : Local) → Here instance caller history s l → (j : ℕ) → j < 16 → IsIdle l j →
     (ws : List ℕ) → Words 145 ws → Reached instance caller history s (λ _ l'. Writing l j ws 145 l')
 cell_written instance caller history s l here j small idle ws fit =
@@ -276,7 +276,7 @@ module _ (instance : Instance) (caller : ℕ) (history : List Entry) (l0 : Local
       ∙ ap (λ ws. record { caller = caller; number = slice_index ws 0; op = slice_range ws 1 145 }) ended.words
       ∙ ap (λ o. record { caller = caller; number = number; op = o }) (take_all 144 op enough)
 
-  -- the history has the entry at its end then
+  -- after the link the history has the entry at its end
   linked_history : history_of instance.base.place (made instance caller s l link).locals ≡ history ++ entry ∷ []
   linked_history =
       let place = instance.base.place in
@@ -291,7 +291,7 @@ module _ (instance : Instance) (caller : ℕ) (history : List Entry) (l0 : Local
       ∙ ap (λ (h : List Entry). h ++ entry_in l j ∷ []) same
       ∙ ap (λ (e : Entry). history ++ e ∷ []) is_entry
 
-  -- the state after the link is lawful, with this history
+  -- the state after the link is lawful and has the history with the entry at its end; the caller's local state has the entry linked
   here_linked : Here instance caller (history ++ entry ∷ []) (made instance caller s l link) (linked l j)
   here_linked = record {
     law = keeps instance caller s l link here.law (makes instance caller s l link here.at can_link);

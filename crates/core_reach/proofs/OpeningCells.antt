@@ -73,7 +73,7 @@ module _ (instance : Instance) (caller : ℕ) (history : List Entry) (l0 : Local
     is_i : m.number ≡ i
     is_i = (here.law.shape.each i m other.1).number
 
-    -- the words after it
+    -- after the step the first i + 1 callers need no cell
     none_freed : NeedNone (i + 1) freed_state.words
     none_freed d less =
         elim (cases_eq d i) [
@@ -86,7 +86,7 @@ module _ (instance : Instance) (caller : ℕ) (history : List Entry) (l0 : Local
       here_freed : Here instance i history freed_state freed
       here_freed = stepped instance i s m freed Unprotect history here_other protected refl refl
 
-      -- where the caller is then
+      -- the local state that the caller has after the step of caller i, which may be the caller itself
       caller_then : (l' : Local) × Here instance caller history freed_state l' × Quiet l0 l'
       caller_then =
           elim (cases_eq caller i) [
@@ -129,7 +129,7 @@ module _ (instance : Instance) (caller : ℕ) (history : List Entry) (l0 : Local
           | inr protected ↦ takes_back protected
         ]
 
-  -- all callers do
+  -- all callers take their protections back
   all_unprotected : (s : State) (l : Local) → Here instance caller history s l → Unneeded l0 0 s l → Reached instance caller history s (Unneeded l0 instance.callers)
   all_unprotected s l here unneeded = each_of instance caller (Unneeded l0) history instance.callers one_unprotected instance.callers 0 (omega arith) s l here unneeded
 

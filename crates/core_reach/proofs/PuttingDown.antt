@@ -61,7 +61,7 @@ module _ (instance : Instance) (caller : ℕ) (history : List Entry) (l0 : Local
   below : (r : ℕ) → 0 < rights_on instance.callers r l → r < 2 * instance.callers
   below r some = (here.law.locks.few caller l here.at).below r some
 
-  -- it backs off from a replica
+  -- the caller backs off from a replica
   back_off : (r : ℕ) (n : ℕ) (l' : Local) → Guard instance (scene_of instance s) (BackOff r) l → backed_off r l ≡ l' → l'.own ≡ l.own → PutDown n l0 l' →
       Reached instance caller history s (λ _ l'. PutDown n l0 l')
   back_off r n l' can is own down =

@@ -55,18 +55,18 @@ module _ (instance : Instance) (s : State) (caller : ℕ) (l : Local) (op : List
   abbrev cur : ℕ
   cur = slice_index s.words cur_at
 
-  -- the replica that it names
+  -- the replica that the code in CUR names
   abbrev r : ℕ
   r = root_replica_of callers cur
 
   small : r < 2 * callers
   small = mod_below cur (2 * callers) (omega (arith, law.shape.some))
 
-  -- CUR is loaded
+  -- the caller's local state after the load of CUR
   abbrev l1 : Local
   l1 = loaded_cur callers l cur
 
-  -- the state after the load of CUR, in which the caller has the local state l1
+  -- the state after the load of CUR
   abbrev s1 : State
   s1 = made instance caller s l LoadCur
 
@@ -79,7 +79,7 @@ module _ (instance : Instance) (s : State) (caller : ℕ) (l : Local) (op : List
   cur1 : slice_index s1.words cur_at ≡ cur
   cur1 = get_or-set_same s.words cur_at cur 0 (omega (arith, law.shape.long))
 
-  -- its replica is taken shared
+  -- the lock word of the replica that CUR names, before the replica is taken shared
   abbrev word : ℕ
   word = slice_index s1.words (lock_at callers r)
 
@@ -87,11 +87,11 @@ module _ (instance : Instance) (s : State) (caller : ℕ) (l : Local) (op : List
   free : word < exclusive_mark
   free = pinned_free instance caller s1 law1 r small (ap (pin callers r) cur1 ∙ on_same r r refl)
 
-  -- the state after the shared right was taken
+  -- the state after the replica is taken shared
   abbrev s2 : State
   s2 = made instance caller s1 l1 (TryShared r)
 
-  -- the caller's local state there
+  -- the caller's local state after the replica is taken shared
   abbrev l2 : Local
   l2 = shared_by r l1 word
 
@@ -110,7 +110,7 @@ module _ (instance : Instance) (s : State) (caller : ℕ) (l : Local) (op : List
   cur2 : slice_index s2.words cur_at ≡ cur
   cur2 = get_or-set_other s1.words (lock_at callers r) cur_at _ 0 (λ e. absurd (omega (arith, e))) ∙ cur1
 
-  -- the place there is that of the code
+  -- the state after the load of the replica's place word
   abbrev s3 : State
   s3 = made instance caller s2 l2 (LoadWord r 0 false)
 
@@ -132,7 +132,7 @@ module _ (instance : Instance) (s : State) (caller : ℕ) (l : Local) (op : List
   there3 : slice_get s3.locals caller ≡ Some l3
   there3 = there instance caller s2 l2 (LoadWord r 0 false) there2
 
-  -- DUR is raised by it, which answers the read
+  -- the raise of DUR by the code of CUR, which answers the read
   abbrev kind4 : Kind
   kind4 = Raise cur (Some op)
 
@@ -175,7 +175,7 @@ module _ (instance : Instance) (s : State) (caller : ℕ) (l : Local) (op : List
       ((law4.answers.each caller l4 there4).reads (length l.seen_reads) read (slice_get-last l.seen_reads read)).reply
       ∙ ap (λ (h : List Entry). reply_after instance h read.place op) (sym (history_is instance.base.place law4.history s4.locals law4.tickets.merged))
 
-  -- so these four events lead to a state in which the read is answered
+  -- the load of CUR, the try, the load of the place and the raise lead to a state in which the read is answered
   reads_at_rest : ReachesRead instance s caller l op
   reads_at_rest = record {
     events = event instance caller LoadCur ∷ event instance caller (TryShared r) ∷ event instance caller (LoadWord r 0 false) ∷ event instance caller kind4 ∷ [];

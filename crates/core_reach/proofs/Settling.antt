@@ -71,7 +71,7 @@ module _ (instance : Instance) (caller : ℕ) (history : List Entry) (l0 : Local
   abbrev end_ : ℕ
   end_ = instance.base.place + length history
 
-  -- CUR is loaded
+  -- the caller, which has a replica downgraded at the history's end, loads CUR
   module _ (s : State) (l : Local) (here : Here instance caller history s l) (given : Downgraded callers l0 end_ l) where
     abbrev cur : ℕ
     cur = slice_index s.words cur_at
@@ -88,7 +88,7 @@ module _ (instance : Instance) (caller : ℕ) (history : List Entry) (l0 : Local
     still_cur : slice_index seen_state.words cur_at ≡ cur
     still_cur = get_or-set_same s.words cur_at cur 0 (omega (arith, here.law.shape.long))
 
-    -- its place is the history's end: DUR is raised by it, and the caller backs off
+    -- the code of CUR has a place at the history's end or above: DUR is raised by that code, and the caller backs off
     module _ (past : end_ ≤ root_place_of callers cur) where
       abbrev raised : Local
       raised = raised_by instance (scene_of instance seen_state) cur None seen
@@ -126,7 +126,7 @@ module _ (instance : Instance) (caller : ℕ) (history : List Entry) (l0 : Local
             seen = past;
           }))))
 
-    -- else the replica is published, DUR raised by its code, and the win retired
+    -- the code of CUR has a place below the history's end: the replica is published, DUR raised by its code, and the win retired
     module _ (not_past : root_place_of callers cur < end_) where
       abbrev code : ℕ
       code = root_code_of callers end_ given.replica

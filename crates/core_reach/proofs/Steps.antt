@@ -22,7 +22,7 @@ pub record Here (instance : Instance) (caller : ℕ) (history : List Entry) (s :
   pub at : slice_get s.locals caller ≡ Some l
   pub of_history : history_of instance.base.place s.locals ≡ history
 
--- some run leads from a state to such a one, of which something holds
+-- some run leads from a state to a lawful one with this history, and `P` holds of that and of the caller's local state there
 pub record Reached (instance : Instance) (caller : ℕ) (history : List Entry) (from : State) (P : State → Local → Type 0) : Type 0 where
   pub events : List Event
   pub to : State
@@ -67,7 +67,7 @@ module _ (instance : Instance) (caller : ℕ) where
       } in
       history_is place here.law.history (set s.locals caller l') after ∙ history_same history s l here
 
-  -- where the caller is after such a step, whose local state is given
+  -- after a step that leaves the own list the state is lawful and has the same history; `l'` is the caller's local state then
   pub stepped : (s : State) (l l' : Local) (kind : Kind) (history : List Entry) → Here instance caller history s l → Guard instance (scene_of instance s) kind l →
       local_after instance (scene_of instance s) kind l ≡ l' → l'.own ≡ l.own → Here instance caller history (made s l kind) l'
   stepped s l l' kind history here guard is own = record {
@@ -116,7 +116,7 @@ module _ (instance : Instance) (caller : ℕ) where
         holds = rest.holds;
       }
 
-  -- so many steps or runs, each of which makes the next fact of the last
+  -- where fact i holds, and some run leads from each fact to the next one, some run leads to the last fact
   pub each_of : (Q : ℕ → State → Local → Type 0) (history : List Entry) (total : ℕ) →
       ((i : ℕ) (s : State) (l : Local) → i < total → Here instance caller history s l → Q i s l → Reached instance caller history s (Q (i + 1))) →
       (n i : ℕ) → i + n ≡ total → (s : State) (l : Local) → Here instance caller history s l → Q i s l → Reached instance caller history s (Q total)

@@ -26,7 +26,7 @@ use Rattle.cx_core.specs.declared.kinds.Kind.TheVariants.{Downgrade, Persist, St
 use Rattle.cx_core.specs.declared.local.HeldExclusive.{HeldExclusive}
 use Rattle.cx_core.specs.declared.local.Local.{Local}
 
--- it holds a replica exclusively, and no other, whose first i words are those of an image and not dirty
+-- a caller holds a replica exclusively, and no other; its first i words are those of an image and not dirty
 pub record Storing (callers : ℕ) (l : Local) (image : List ℕ) (i : ℕ) (l' : Local) : Type 0 where
   pub same : Same l l'
   pub replica : ℕ
@@ -41,7 +41,7 @@ pub record Storing (callers : ℕ) (l : Local) (image : List ℕ) (i : ℕ) (l' 
   pub stored : (k : ℕ) → k < i → slice_index words k ≡ slice_index image k
   pub clean : All (λ k. i ≤ k) dirty
 
--- it holds a replica downgraded at a place, and no other
+-- a caller holds a replica downgraded at a place, and no other
 pub record Downgraded (callers : ℕ) (l : Local) (place : ℕ) (l' : Local) : Type 0 where
   pub same : Same l l'
   pub replica : ℕ
@@ -153,7 +153,7 @@ module _ (instance : Instance) (caller : ℕ) (history : List Entry) (l0 : Local
   all_stored : (s : State) (l : Local) → Here instance caller history s l → Storing callers l0 image 0 l → Reached instance caller history s (λ _ l'. Storing callers l0 image region l')
   all_stored = each_of instance caller (λ i _ l. Storing callers l0 image i l) history region word_stored region 0 (omega arith)
 
-  -- it is downgraded once all words are those of the full image
+  -- the replica is downgraded once all its words are those of the full image
   module _ (place : ℕ) (full : IsFull instance history image) (placed : place_of image ≡ place) (long : length image ≡ region)
       (s : State) (l : Local) (here : Here instance caller history s l) (storing : Storing callers l0 image region l) where
     abbrev given_local : Local

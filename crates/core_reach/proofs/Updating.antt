@@ -32,14 +32,14 @@ pub record Answered (own : List Linked) (l : Local) : Type 0 where
   pub all : length l.answered ≡ length l.own
   pub rests : HoldsNone l
 
--- some run leads to it
+-- some run leads to a state in which a caller's entries are each answered, and it holds no replica
 is_answered : (instance : Instance) (caller : ℕ) (history : List Entry) (own : List Linked) (s : State) (l : Local) → Here instance caller history s l → l.own ≡ own → 0 < length instance.base.words →
     Reached instance caller history s (λ _ l'. Answered own l')
 is_answered instance caller history own s l here same some =
     andthen instance caller s history history (settles instance caller history s l here some) (λ s1 l1 here1 settled.
     stay instance caller s1 l1 history here1 (let end : Answered own l1 = record { linked = settled.same.own ∙ same; all = settled.all; rests = settled.rests } in end))
 
--- then each entry has the answer that the history gives
+-- where some run answers each entry of a caller, each has the answer that the history gives
 answers : (instance : Instance) (s : State) (caller : ℕ) (history : List Entry) (own : List Linked) → Reached instance caller history s (λ _ l'. Answered own l') → ReachesAnswers instance s caller history own
 answers instance s caller history own run = record {
   events = run.events;

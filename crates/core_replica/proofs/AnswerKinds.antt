@@ -82,7 +82,7 @@ kind_kept instance history scene locals caller l Publish grounds old same at gua
 kind_kept instance history scene locals caller l (Raise code read) grounds old same at guard = raise_kept instance history scene locals caller l code read grounds old same at guard
 kind_kept instance history scene locals caller l kind grounds old same at guard = framed instance history scene locals caller l old at kind (omega arith) (record { own = refl; answered = refl; seen_reads = refl; floor = refl })
 
--- so it is of an allowed step in a state
+-- an allowed step in a state keeps the part on answers
 pub answers_kept : (instance : Instance) (history : List Entry) (s : State) (caller : ℕ) (l : Local) (kind : Kind) → Shape instance s.words s.locals → Tickets instance history s.locals → Fronts instance history s.words s.locals →
     Locks instance.callers s.words s.locals → Regions instance history s.words s.locals → Answers instance history s.words s.locals → slice_get s.locals caller ≡ Some l → Guard instance (scene_of instance s) kind l →
     Answers instance history (words_after instance kind l s.words) (set s.locals caller (local_after instance (scene_of instance s) kind l))

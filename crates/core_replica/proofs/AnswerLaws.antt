@@ -110,7 +110,7 @@ reply_stays instance history more ticket reply is =
       | inr b ↦ absurd (none-some reply (ap (reply_in (take n history)) (sym b.1) ∙ is))
     ]
 
--- so does the object's reply after a place that the history reaches
+-- the object's reply after a place that the history reaches stays where the history goes on
 pub after_stays : (instance : Instance) (history more : List Entry) (place : ℕ) (op : List ℕ) → place ≤ instance.base.place + length history →
     reply_after instance (history ++ more) place op ≡ reply_after instance history place op
 after_stays instance history more place op within =

@@ -88,7 +88,7 @@ module _ (instance : Instance) (s : State) (root : Root instance s.words s.local
   pub chain_rises : (first : ℕ) (rest : List ℕ) → IsCodeChain s.words s.locals (first ∷ rest) → RiseInPlace instance.callers first rest
   chain_rises first rest chain = leads_rise first rest (slice_index s.words cur_at) chain.1
 
-  -- so each of its codes has a place at or above DUR's
+  -- each code of the chain has a place at or above DUR's
   pub chain_from_dur : (codes : List ℕ) (code : ℕ) → IsCodeChain s.words s.locals codes → Contains codes code → root_place_of instance.callers (slice_index s.words dur_at) ≤ root_place_of instance.callers code
   chain_from_dur [] code chain among = absurd chain
   chain_from_dur (first ∷ codes) code chain among =
@@ -138,7 +138,7 @@ module _ (instance : Instance) (s : State) (root : Root instance s.words s.local
           pinned = omega (arith, (locks.each r named.nobody.below).counted, named.counted);
         }
 
-    -- so it is the full image after the code's place
+    -- the replica that a code of the chain names is the full image after its place
     pub chain_image : (history : List Entry) (codes : List ℕ) (code : ℕ) → Regions instance history s.words s.locals → IsCodeChain s.words s.locals codes → Contains codes code →
         IsReplicaImage instance history s.words (root_replica_of instance.callers code)
     chain_image history codes code regions chain among = let p = chain_pinned codes code chain among in regions.unheld (root_replica_of instance.callers code) p.below p.unheld

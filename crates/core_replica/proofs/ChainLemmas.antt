@@ -59,7 +59,7 @@ module _ (locals : List Local) (caller : ℕ) (l l' : Local) (at : slice_get loc
         ]
       ]
 
-  -- so it is where its win stays or ends
+  -- wins stay apart where a caller's win stays or ends
   pub wins_stay : WinsApart locals → ((w : WonCode) → l'.won ≡ Some w → l.won ≡ Some w) → WinsApart (set locals caller l')
   wins_stay apart stays = wins_put apart (λ w has d x v there ne won same. ne (apart d caller x l v w there at won (stays w has) same))
 

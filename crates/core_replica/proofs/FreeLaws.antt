@@ -46,7 +46,7 @@ over_has : (o : Option ℕ) (n : ℕ) → over (λ r. is_on r o) n ≤ has o
 over_has None n = let none = over_nothing n in omega arith
 over_has (Some q) n = (over_on q n).0
 
--- so a caller's rights over all replicas are at most as many as it has
+-- a caller's rights, counted replica by replica, are at most as many as it has
 over_rights : (callers : ℕ) (l : Local) (n : ℕ) → over (λ r. rights_on callers r l) n ≤ rights callers l
 over_rights callers l n =
     let a = over_two (λ r. holds r l + claims callers r l) (λ r. is_on r l.passer) n in

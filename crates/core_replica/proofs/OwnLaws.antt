@@ -54,7 +54,7 @@ module _ (instance : Instance) (history : List Entry) (locals : List Local) (cal
   pub own_linked : (i : ℕ) (y : Linked) → slice_get l.own i ≡ Some y → (base ≤ y.ticket) × (slice_get history (y.ticket - base) ≡ Some y.entry)
   own_linked i y there = own_at caller base history i y (ap (λ (o : List Linked). slice_get o i) (sym (tickets.merged.own caller l at)) ∙ there)
 
-  -- so the history has the object's reply to it
+  -- the history has the object's reply to each own entry
   pub own_reply : (i : ℕ) (y : Linked) → slice_get l.own i ≡ Some y →
       reply_at instance.step base (object_part instance.base.words) history y.ticket ≡ Some (reply_after instance history y.ticket y.entry.op)
   own_reply i y there =

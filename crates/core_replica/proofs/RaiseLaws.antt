@@ -162,7 +162,7 @@ module _ (instance : Instance) (history : List Entry) (words : List ℕ) (locals
           | inr new ↦ (let within = slice_get_within answers new.0 x new.2 in answered_entry l'.floor new.0 x (reaches (omega arith)) new.2 l' refl)
         ]
 
-    -- so do the reads from before
+    -- the reads that were answered before the raise stand after it
     read_after : (l' : Local) → l'.own ≡ l.own → l'.answered ≡ l.answered ++ answers → l.floor ≤ l'.floor → (i : ℕ) (x : SeenRead) → slice_get l.seen_reads i ≡ Some x → IsRead instance history end_ l' x
     read_after l' own answered up i x there =
         let longer : length l'.answered ≡ length l.answered + length answers = ap length answered ∙ length-append l.answered answers in

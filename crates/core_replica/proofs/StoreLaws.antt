@@ -48,7 +48,7 @@ module _ (instance : Instance) (scene : Scene) (locals : List Local) (caller : �
   abbrev Same : Kind → Type 0
   Same kind = SameWords instance words (words_after instance kind l words) r
 
-  -- its holder is no caller
+  -- the replica that a caller holds exclusively is another one
   held_else : (q : ℕ) → exclusive_on l ≡ Some q → q ≢ r
   held_else q held e =
       let one : holds r l ≡ 1 = ap (is_on r) held ∙ on_same q r e in
@@ -75,7 +75,7 @@ module _ (instance : Instance) (scene : Scene) (locals : List Local) (caller : �
   }
   words_left kind guard = low_words instance words _ _ r (step_low instance scene words locals caller l shape at kind guard)
 
--- so no event stores to a replica that a code of the chain names
+-- no event stores to a replica that a code of the chain names
 module _ (instance : Instance) (before after : State) (event : Event) (codes : List ℕ) (code : ℕ) (shape : Shape instance before.words before.locals) (locks : Locks instance.callers before.words before.locals)
     (root : Root instance before.words before.locals) (chain : IsCodeChain before.words before.locals codes) (among : Contains codes code) (made : Makes instance event before after) where
   abbrev named : ℕ

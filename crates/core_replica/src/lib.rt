@@ -31,8 +31,8 @@
 //!   its caller's own entries that it counts and before the others: `answers_are_to_own_entries`, `answers_rise`, `answers_stay`, `reads_stay`,
 //!   `answers_are_never_taken_back`, `reads_count_own_entries`.
 //!
-//! The functions of these two crates and of `core_runs` have empty bodies, so no must-fail edit of code can stand here; those of the guards stand
-//! in `core_guards`.
+//! The functions of this crate, of `core_queue` and of `core_runs` have empty bodies, so no must-fail edit of code can stand here; those of the
+//! guards stand in `core_guards`.
 #![tactic(auto)]
 
 pub mod answer_frames;

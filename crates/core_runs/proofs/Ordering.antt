@@ -102,13 +102,13 @@ module _ (instance : Instance) (now to : State) (events : List Event) (law : Law
   pub in_order : (a b : Operation) (p q : Point) → IsAnswered now a → IsAhead now b → IsPointOf to a p → IsPointOf to b q → IsBefore p q
   in_order a b p q answered ahead at_a at_b = apart (durable_place instance now.words) p q (answered_below a p answered at_a) (ahead_from b q ahead at_b)
 
--- so each run from a lawful state keeps its real-time order
+-- each run from a lawful state keeps its real-time order
 pub keeps_real_time : (instance : Instance) (from to : State) → Lawful instance from → KeepsRealTime instance from to
 keeps_real_time instance from to law a b p q precedes at_a at_b =
     let law' = run_kept instance from precedes.before precedes.moment law precedes.comes_by in
     in_order instance precedes.moment to precedes.after law' precedes.goes_on a b p q precedes.answered precedes.ahead at_a at_b
 
--- and each state that a run reaches is that of a linearizable object
+-- each state that a run from a lawful state reaches is that of a linearizable object
 pub linearizable : (instance : Instance) (events : List Event) (from to : State) → Lawful instance from → Run instance from events to → IsLinearizable instance from to
 linearizable instance events from to lawful run =
     let law = run_kept instance from events to lawful run in

@@ -33,7 +33,7 @@ pub record Since (callers place n : ℕ) (l : Local) : Type 0 where
   pub code : (l.fresh ≡ false) ⊎ (place ≤ root_place_of callers l.seen_cur)
   pub reads : (i : ℕ) (x : SeenRead) → slice_get l.seen_reads i ≡ Some x → n ≤ i → place ≤ x.place
 
--- `Since` stays in a local state with the reads and the code of `l`, also where the code is not fresh any more
+-- the part of `Since` on the code holds also where `l` has the code still, and the code is not fresh any more (`b`) or as fresh as before
 module _ (callers place n : ℕ) (l : Local) (old : Since callers place n l) where
   ended : (b : Bool) → (cond b false l.fresh ≡ false) ⊎ (place ≤ root_place_of callers l.seen_cur)
   ended true = inl refl
@@ -80,7 +80,7 @@ since_next instance scene Confirm l place n guard cur old =
 since_next instance scene OpenFree l place n guard cur old = record { code = inl refl; reads = old.reads }
 since_next instance scene kind l place n guard cur old = record { code = old.code; reads = old.reads }
 
--- so it is of a caller in a state
+-- in a state a caller has a local state of which `Since` holds
 pub record SinceIn (callers place n : ℕ) (s : State) (caller : ℕ) : Type 0 where
   pub local : Local
   pub of_caller : slice_get s.locals caller ≡ Some local
@@ -106,7 +106,7 @@ since_event instance event before after caller place n law m durable old =
       | inr ne ↦ record { local = old.local; of_caller = turn old.local (slice_get-set_other before.locals event.caller caller l' ne ∙ old.of_caller); since = old.since }
     ]
 
--- and of a caller along a run
+-- `SinceIn` stays along a run from a state in which DUR is at the place or above
 pub since_run : (instance : Instance) (from : State) (events : List Event) (to : State) (caller place n : ℕ) → Lawful instance from → Run instance from events to → place ≤ durable_place instance from.words →
     SinceIn instance.callers place n from caller → SinceIn instance.callers place n to caller
 since_run instance from [] to caller place n law run durable old = subst (λ (s : State). SinceIn instance.callers place n s caller) (sym run) old

@@ -91,7 +91,7 @@ Words-overwritten n [] ws at small w = w
 Words-overwritten n (v ∷ vs) ws at small w =
     Words-overwritten n vs (slice_set ws at v) (at + 1) (All-tail (λ x. x < 2 ^ 64) v vs small) (Words-set n ws at v (All-head (λ x. x < 2 ^ 64) v vs small) w)
 
--- a word before those put, one behind them, and one of them
+-- where words `vs` were put into `ws` from a place on, a word before that place stays
 pub overwritten_before : (vs ws : List ℕ) (at i : ℕ) → i < at → slice_index (overwritten at vs ws) i ≡ slice_index ws i
 unfolding overwritten
 overwritten_before [] ws at i below = refl
@@ -107,7 +107,7 @@ overwritten_behind (v ∷ vs) ws at i past =
     let apart : i ≢ at = λ e. omega (arith, e) in
     overwritten_behind vs (slice_set ws at v) (at + 1) i (omega arith) ∙ get_or-set_other ws at i v 0 apart
 
--- where words `vs` were put into `ws` from a place on, word k of them stands k places behind it
+-- where words `vs` were put into `ws` from a place on, word k of them stands k places behind that place, if `ws` is long enough
 pub overwritten_within : (vs ws : List ℕ) (at k : ℕ) → k < length vs → at + k < length ws → slice_index (overwritten at vs ws) (at + k) ≡ slice_index vs k
 unfolding overwritten
 overwritten_within [] ws at k below inside = absurd (omega arith)

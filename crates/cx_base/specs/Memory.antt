@@ -70,6 +70,6 @@ pub record Known (words first now : List ℕ) : Type 0 where
   pub first_fits : Words (length words) first
   pub same : now ≡ words
 
--- the words now of such a pair are as many and as small as the known ones
+-- where the words now are known, they are as many and as small as the known ones
 pub words_from_known : (words first now : List ℕ) → All (λ x. x < 2 ^ 64) words → Known words first now → Words (length words) now
 words_from_known words first now fit k = record { long = ap length k.same; fit = All-same (λ x. x < 2 ^ 64) now words k.same fit }

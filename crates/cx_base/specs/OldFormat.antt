@@ -3,7 +3,7 @@ use Rattle.std.specs.Prelude.{◌≡◌, ◌≢◌, ◌*◌, ℕ, List, Option, 
 use Rattle.std.proofs.Common.{refl}
 use Rattle.cx_base.specs.Memory.{Words}
 
--- its version, whether an image of it may be the object's, and the image that such a one becomes
+-- a format of before: its version, which images of it may be the object's, and the image that each of them becomes
 pub record OldFormat : Type 1 where
   pub version : Option ℕ
   pub lawful : List ℕ → Type 0

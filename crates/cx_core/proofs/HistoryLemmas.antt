@@ -54,7 +54,7 @@ unfolding full_image
 full_stays instance history more place within =
     ap (image_from instance.step instance.base.words) (take-append-le (place - instance.base.place) history more (omega arith))
 
--- an entry that is linked in a history is so in a longer one
+-- an entry that is linked in a history is linked also in one that continues it
 pub linked_grows : (place : ℕ) (history more : List Entry) (ticket : ℕ) (entry : Entry) → IsLinked place history ticket entry → IsLinked place (history ++ more) ticket entry
 linked_grows place history more ticket entry l = record { from = l.from; at = slice_get-append_left history more (ticket - place) entry l.at }
 
@@ -118,7 +118,7 @@ module _ (lines : ℕ) (lawful : List ℕ → Type 0) (instance : Instance) (law
   pub full_lawful : (p : ℕ) → instance.base.place ≤ p → p ≤ instance.base.place + length history → LawfulBase lines lawful (record { place = p; words = full_image instance.step instance.base history p })
   full_lawful p from to = lawful_on (p - instance.base.place) p (omega arith) (omega arith)
 
--- so a full image with the entries from its place on applied is the full image after them, and has their place
+-- a full image with the next entries from its place on applied is the full image after them, and has the place after them
 pub full_on : (lines : ℕ) (lawful : List ℕ → Type 0) (instance : Instance) → ObjectLaws lines lawful instance.step → (history : List Entry) → LawfulBase lines lawful instance.base →
     AreLawful instance.base.place history → instance.base.place + length history ≤ 2 ^ 40 → (region : List ℕ) (n : ℕ) → instance.base.place ≤ place_of region →
     region ≡ full_image instance.step instance.base history (place_of region) → place_of region + n ≤ instance.base.place + length history →

@@ -23,11 +23,11 @@ module _ (lines : ℕ) (region image reply : List ℕ) (caller number place : �
   with_object : List ℕ
   with_object = overwritten 1168 image region
 
-  -- and with the entry's number and reply in its caller's slot
+  -- a region with a new image, and with the entry's number and reply in its caller's slot
   with_slot : List ℕ
   with_slot = overwritten (slot_start caller) (number ∷ reply) with_object
 
-  -- and with the next place: a region after a full step
+  -- a region after a full step: with a new image, the entry's number and reply, and the next place
   stepped : List ℕ
   stepped = overwritten 0 (place ∷ []) with_slot
 

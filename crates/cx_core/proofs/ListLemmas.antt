@@ -22,7 +22,7 @@ slice_get-set_other (x ∷ xs) (suc i) (suc k) y ne = slice_get-set_other xs i k
 pub set_here : {X : Type 0} (xs : List X) (i : ℕ) (x : X) → slice_get xs i ≡ Some x → set xs i x ≡ xs
 set_here xs i x at = ap (set xs i) (sym (get_or_from_slice_get xs i x x at)) ∙ set-get_or xs i x
 
--- an item of two lists one after another is of the first or of the second
+-- an item of the first of two lists in a row is the item at its place of both
 pub slice_get-append_left : {X : Type 0} (xs ys : List X) (i : ℕ) (x : X) → slice_get xs i ≡ Some x → slice_get (xs ++ ys) i ≡ Some x
 slice_get-append_left [] ys i x at = absurd (none-some x at)
 slice_get-append_left (z ∷ xs) ys zero x at = at

@@ -53,7 +53,7 @@ unfolding count_from
 count_nil from zero ticket = refl
 count_nil from (suc n) ticket = omega (arith, count_nil (from + 1) n ticket)
 
--- so all entries are counted
+-- the entries of all callers are as many as the history has
 count_all : (n ticket : ℕ) (history : List Entry) → ((i : ℕ) (entry : Entry) → slice_get history i ≡ Some entry → entry.caller < n) → count_from 0 n ticket history ≡ length history
 count_all n ticket [] of = count_nil 0 n ticket
 count_all n ticket (entry ∷ rest) of =

@@ -6,7 +6,7 @@ use Rattle.cx_core.specs.declared.local.Local.{Local}
 use Rattle.cx_core.specs.Frames.{StepApart}
 use Rattle.cx_core.specs.State.{State}
 
--- what is kept of words and local states put so, is kept by such a step
+-- where `P` holds once any word with `Off` and any local state with `Same` are put, it holds after a step that is apart by `Off` and `Same`
 pub stepped : (Off : ℕ → Type 0) (Same : Local → Local → Type 0) (P : List ℕ → List Local → Type 0) (before after : State) → StepApart Off Same before after →
     ((at v caller : ℕ) (l l' : Local) → slice_get before.locals caller ≡ Some l → Off at → Same l l' → P (set before.words at v) (set before.locals caller l')) →
     P after.words after.locals

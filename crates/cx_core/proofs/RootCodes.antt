@@ -19,7 +19,7 @@ code_place callers place replica small = div-mul-add place (2 * callers) replica
 pub place_up : (callers a b : ℕ) → 1 ≤ callers → a ≤ b → root_place_of callers a ≤ root_place_of callers b
 place_up callers a b some up = le-div (root_place_of callers a) b (2 * callers) (omega arith) (let back = div-add-mod' a (2 * callers) in omega arith)
 
--- and codes with places
+-- codes rise with places
 pub code_up : (callers a b : ℕ) → 1 ≤ callers → root_place_of callers a < root_place_of callers b → a < b
 code_up callers a b some up =
     elim (cases_lt a b) [

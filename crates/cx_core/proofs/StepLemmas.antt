@@ -20,7 +20,7 @@ none_behind : (front part behind : List ℕ) (from len : ℕ) → length front �
 none_behind front part behind from len f l whole =
     nil_from_length behind (omega (arith, length-append (front ++ part) behind, length-append front part))
 
--- then the middle is what comes from its beginning on
+-- where nothing is behind the middle, the middle is what comes from its beginning on
 drop_front : (front part behind : List ℕ) (from : ℕ) → length front ≡ from → behind ≡ [] → drop from (front ++ part ++ behind) ≡ part
 drop_front front part behind from f e =
     ap (drop from) (append_assoc front part behind ∙ ap (λ xs. front ++ (part ++ xs)) e)
@@ -73,7 +73,7 @@ module _ {Key : Type 0} where
         ));
   }
 
-  -- what a call does to a part of the words it does to the whole, where the part stands as before from `from` on; where the call halts, nothing is said
+  -- what a call does to a part of the words it does to the whole, where the part begins and ends where it did; where the call halts, nothing is said
   pub part_done : {X E : Type 0} (old new : Key → List ℕ → Type 0) (R : X → List ℕ → List ℕ → Type 0) (r : Result X E) (from len from' len' : ℕ) →
       from' ≡ from → len' ≡ len → ((first : Key) (now : List ℕ) → new first now → length now ≡ from + len) →
       IfOk r (λ x. Becomes (Inside old from len) (Inside new from' len') (R x)) → IfOk r (λ x. Becomes old new (OnPart from (R x)))
@@ -101,7 +101,7 @@ step_of_changes step entry place reply ws a b c d at_place done number reply_put
     }
 
 module _ {Key : Type 0} where
-  -- what these five do to the pairs that stand
+  -- what the five changes of a full step, one after another, do to the words that may stand
   pub full_step_done : {old m₁ m₂ m₃ m₄ new : Key → List ℕ → Type 0} (step : List ℕ → List ℕ → List ℕ × List ℕ) (entry : Entry) (place slot : ℕ) (reply : List ℕ) →
       slot ≡ slot_start entry.caller →
       Loaded 0 place old m₁ →

@@ -19,7 +19,7 @@ total_member f [] i l at = absurd (none-some l at)
 total_member f (x ∷ xs) zero l at = let e : f x ≡ f l = ap f (same_Some x l at) in omega arith
 total_member f (x ∷ xs) (suc i) l at = let rest = total_member f xs i l at in omega arith
 
--- so are two of different callers together
+-- what two different callers add is together at most the sum
 pub total_two : (f : Local → ℕ) (ls : List Local) (i j : ℕ) (a b : Local) → slice_get ls i ≡ Some a → slice_get ls j ≡ Some b → i ≢ j → f a + f b ≤ total f ls
 total_two f [] i j a b at bt apart = absurd (none-some a at)
 total_two f (x ∷ xs) zero zero a b at bt apart = absurd (apart refl)

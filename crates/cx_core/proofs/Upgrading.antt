@@ -87,7 +87,7 @@ module _ (lines version : ℕ) (lawful : List ℕ → Type 0) (old : OldFormat) 
   old_lawful (inl own) is_old = absurd (takes.another (is_old ∙ ap Some (shape (object_part region) own).1))
   old_lawful (inr was) is_old = was
 
-  -- what is recovered from such a region is a lawful base
+  -- what is recovered from a region whose object part is lawful in the new format or the old one is a lawful base
   pub recovered_lawful : (place : ℕ) → Words (region_words lines) region → place_of region ≡ place → place ≤ 2 ^ 40 → LawfulResults region
       → lawful (object_part region) ⊎ old.lawful (object_part region)
       → ((caller : ℕ) → caller < 8 → slot_number caller (upgraded_region old region) ≤ place)

@@ -18,7 +18,7 @@ pub record StepApart (Off : ℕ → Type 0) (Same : Local → Local → Type 0) 
   pub words : after.words ≡ slice_set before.words at word
   pub locals : after.locals ≡ slice_set before.locals caller next
 
--- a step is on no word of a list, which begins and ends there
+-- a word is none of those from one place on and before another
 abbrev pub IsOff : ℕ → ℕ → ℕ → Type 0
 IsOff from until at = (at < from) ⊎ (until ≤ at)
 

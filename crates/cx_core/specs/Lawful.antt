@@ -117,7 +117,7 @@ pub record SeenStands (instance : Instance) (words : List ℕ) (seen : SeenSlot)
       ⊎ ((0 < slice_index words (link_at instance.callers seen.slot)) × (link_ticket_of instance.callers seen.word < link_ticket_of instance.callers (slice_index words (link_at instance.callers seen.slot))))
   pub stands : 0 < seen.word → slice_index words free_at ≤ link_ticket_of instance.callers seen.word → slice_index words (link_at instance.callers seen.slot) ≡ seen.word
 
--- the slot that a caller last looked at, if any, is still as was seen, up to a later link
+-- the slot that a caller last looked at, if any, is still as it was seen, up to a later link
 abbrev pub SlotStands : Instance → List ℕ → Local → Type 0
 SlotStands instance words l = (seen : SeenSlot) → l.seen_slot ≡ Some seen → SeenStands instance words seen
 

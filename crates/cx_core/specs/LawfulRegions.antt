@@ -15,7 +15,7 @@ use Rattle.cx_core.specs.State.{Instance, EachLocal}
 abbrev pub vol_word : Instance → List ℕ → ℕ → ℕ → ℕ
 vol_word instance words r i = slice_index words (vol_at instance.callers (length instance.base.words) r i)
 
--- word i of a replica as the medium holds it, which a crash leaves
+-- word i of a replica as the medium holds it, which a crash leaves where the word is not dirty
 abbrev pub per_word : Instance → List ℕ → ℕ → ℕ → ℕ
 per_word instance words r i = slice_index words (per_at instance.callers (length instance.base.words) r i)
 

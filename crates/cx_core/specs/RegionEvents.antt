@@ -23,7 +23,7 @@ ShowsOutdated callers region words r i l =
     × IsTrue (is_fresh_on callers r l)
     × (slice_index words (vol_at callers region r 0) ≢ root_place_of callers l.seen_cur)
 
--- with a refusal marked, a load also needs that its word shows that
+-- a load that is marked as a refusal also needs that its word shows the replica outdated
 abbrev pub CanLoadAs : Bool → ℕ → ℕ → List ℕ → ℕ → ℕ → Local → Type 0
 CanLoadAs refused callers region words r i l = CanLoad callers region r i l × (IsTrue refused → ShowsOutdated callers region words r i l)
 

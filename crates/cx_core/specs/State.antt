@@ -77,7 +77,7 @@ blank_cell = record { words = replicate 145 0; ticket = None; set = replicate 51
 abbrev pub opening_code : ℕ → ℕ → ℕ
 opening_code callers place = root_code_of callers place 0
 
--- the local state with which a caller opens, at the place of the base: it has no entry and no right, and has seen the opening codes
+-- the local state with which a caller opens, at the place of the base: no entry and no right, and the opening code, though CUR was not loaded
 abbrev pub opening_local : ℕ → ℕ → ℕ → Local
 opening_local callers place caller = record {
   number = caller;

@@ -50,7 +50,7 @@ keys_rise_after lines store (Del key) rising = subst KeysRise (sym (pairs_remove
 keys_rise_after lines store (Add key amount) rising = after_add Rising lines store rising key amount (number_at key (pairs_in store)) (λ sum fits. written_rises key (signed_decimal sum) store rising)
 keys_rise_after lines store op rising = rising
 
--- so they do after a step that may have failed
+-- where the keys of a store rise, they rise after a step that may have failed
 pub rise_after_step : {E : Type 0} (lines : ℕ) (store new : RevisedStore) (op : Op) (r : Result Reply E) → KeysRise (pairs_in store) → OnOk r (new ≡ store_after lines store op) → OnErr r (new ≡ store) → KeysRise (pairs_in new)
 rise_after_step lines store new op (Ok reply) rising next err = subst Rising (sym next) (keys_rise_after lines store op rising)
 rise_after_step lines store new op (Err e) rising next err = subst Rising (sym err) rising

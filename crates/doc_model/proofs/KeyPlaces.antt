@@ -124,7 +124,7 @@ module _ (triples : List ((List ℕ × List ℕ) × ℕ)) (rising : KeysRise (pa
       let inside : at + 1 + k < length triples = omega arith in
       rw (get_or-drop (at + 1) triples k d) (subst (λ q. key_cmp q (get_or triples (at + 1 + k) d).0.0 ≡ Less) (same d) (triples_apart triples rising at (at + 1 + k) d late inside))
 
-  -- so a triple that has the key is at the key's place
+  -- a triple that has the key is at the key's place
   pub is_at : (at : ℕ) → at < length triples → HoldsAt (λ t. key_cmp t.0.0 key ≡ Equal) triples at → IsAtPlace triples key at
   is_at at within ties =
       let same : HoldsAt (λ t. t.0.0 ≡ key) triples at = λ d. same_key (get_or triples at d).0.0 key (ties d) in
@@ -142,7 +142,7 @@ module _ (triples : List ((List ℕ × List ℕ) × ℕ)) (rising : KeysRise (pa
         has_revision = λ t. ap (option_map (λ u. u.1)) (found t);
       }
 
-  -- and a place between the keys below and those above is the key's gap
+  -- a place between the keys below and those above is the key's gap
   pub is_gap : (at : ℕ) → at ≤ length triples → IsPartitionPoint (λ t. key_cmp t.0.0 key ≡ Less) (λ t. key_cmp t.0.0 key ≡ Greater) triples at → IsGapFor triples key at
   is_gap at within parted =
       let below : All (Below key) (take at triples) = λ k d lt.

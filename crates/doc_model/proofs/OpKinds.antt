@@ -149,7 +149,7 @@ op_document_text op is = no_text 1024
 only_key_passes : (key : List ℕ) → IsKey key → has_key_only key [] ≡ true
 only_key_passes key is = and_from (is_key key) true (key_passes key is) refl
 
--- they are an operation's
+-- the parts of an operation pass the test of being an operation's
 pub op_has : (op : Op) → IsOp op → has_op (op_kind op) (op_key op) (op_document op) (op_number op) ≡ true
 op_has (Put key document) is =
     and_from (is_key key && is_document document) true (and_from (is_key key) (is_document document) (key_passes key is.0) (document_passes document is.1)) refl
@@ -164,7 +164,7 @@ op_has Count is = refl
 op_has (PutIf key revision document) is = and_from (is_key key) (is_document document) (key_passes key is.0) (document_passes document is.1)
 op_has (Rev key) is = and_from (has_key_only key []) true (only_key_passes key is) refl
 
--- and of this one
+-- the operation with the parts of an operation is that operation
 pub op_again : (op : Op) → HasIntegerAmount op → op_with (op_kind op) (op_key op) (op_document op) (op_number op) ≡ op
 op_again (Add key amount) fits = ap (Add key) (to_z-of_z w64 amount fits)
 op_again op fits = refl
@@ -187,7 +187,7 @@ ops_same one other one_is one_amount other_is other_amount same =
     one one_is one_amount (same ∙ op_words_are other)).1
     ∙ op_again other other_amount
 
--- words that have these parts, and the operation that has them where one has
+-- of which operation, if any, words with these parts are the words
 module _ (words : List ℕ) (kind : ℕ) (key document : List ℕ) (number : ℕ) (are : words ≡ words_with kind key document number)
     (small : number < 2 ^ 64) (key_is : IsShortText 64 key) (document_is : IsShortText 1024 document) where
   pub op_found : (op : Op) → has_op kind key document number ≡ true → op ≡ op_with kind key document number → IsOpOf words op

@@ -59,7 +59,7 @@ pub keys_apart : (store : Store) → KeysRise store → AllPairs (λ p q. key_cm
 keys_apart [] rising = λ i j d lt within. absurd (omega arith)
 keys_apart (p ∷ store) rising = AllPairs-cons (λ p q. key_cmp p.0 q.0 ≡ Less) p store rising.0 (keys_apart store rising.1)
 
--- a front and a back of such a list, and what a test keeps
+-- where the keys of a store rise, so do those of the pairs that a test keeps
 pub KeysRise-filter : (test : List ℕ × List ℕ → Bool) (store : Store) → KeysRise store → KeysRise (filter test store)
 KeysRise-filter test [] rising = tt
 KeysRise-filter test (p ∷ store) rising =
@@ -68,7 +68,7 @@ KeysRise-filter test (p ∷ store) rising =
       | false ↦ KeysRise-filter test store rising.1
     ]
 
--- two such lists with a key between them
+-- the keys of two stores in a row rise, where those of each do and some key is above the first store's and below the second's
 pub KeysRise-append : (key : List ℕ) (front back : Store) → KeysRise front → KeysRise back → All (IsBelow key) front → All (IsAbove key) back → KeysRise (front ++ back)
 KeysRise-append key [] back rises rest below above = rest
 KeysRise-append key (p ∷ front) back rises rest below above =

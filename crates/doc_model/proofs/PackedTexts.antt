@@ -35,7 +35,7 @@ byte_past w r j e past =
     ap (λ n. w / 2 ^ n) (sym split) ∙ sym (shr-shr w (8 * r) (8 * (j - r))) ∙ ap (λ n. n / 2 ^ (8 * (j - r))) e in
     omega arith
 
--- the other way
+-- where no byte of a word is set from byte `r` on, nothing is left of the word from there on
 past_bytes : (w r : ℕ) → w < 2 ^ 64 → ((j : ℕ) → r ≤ j → j < 8 → w / 2 ^ (8 * j) % 256 ≡ 0) → w / 2 ^ (8 * r) ≡ 0
 past_bytes w r small none =
     let v = w / 2 ^ (8 * r) in
@@ -79,7 +79,7 @@ more_between words least most at here before k below = elim (cases_lt k (8 * at)
       subst (IsBetween least most) byte (here (k - 8 * at) within))
 ]
 
--- the other way
+-- where the first `len` bytes of packed words are between two numbers, so are all bytes of each whole word of them
 pub word_between : (words : List ℕ) (least most len at : ℕ) → at < len / 8 → ((k : ℕ) → k < len → IsBetween least most (byte_at words k))
     → (i : ℕ) → i < 8 → IsBetween least most (get_or words at 0 / 2 ^ (8 * i) % 256)
 word_between words least most len at whole all i below = subst (IsBetween least most) (byte_of_word words at i below) (all (8 * at + i) (omega arith))
@@ -93,7 +93,7 @@ padded_behind words len small padded k past =
     let none = past_bytes (get_or words k 0) 0 (small k) (λ j from below. sym (byte_of_word words k j below) ∙ padded (8 * k + j) (omega arith)) in
     omega arith
 
--- the words behind it
+-- words are padded behind `len` bytes where nothing of the word there is set from that byte on, and all words behind it are 0
 pub padded_by : (words : List ℕ) (len : ℕ) → get_or words (len / 8) 0 / 2 ^ (8 * (len % 8)) ≡ 0 → All (λ w. w ≡ 0) (drop (len / 8 + 1) words) → IsPadded len words
 padded_by words len here rest = padded_from words len here (λ k more. (
     let place : len / 8 + 1 + (k - (len / 8 + 1)) ≡ k = omega arith in

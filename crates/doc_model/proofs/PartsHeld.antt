@@ -146,7 +146,7 @@ parts_pass words kind key document number key_is document_is is =
 pub no_parts : (words : List ℕ) → (PassTests words → ⊥) → HaveNoParts words
 no_parts words fails kind number key document key_is document_is is = fails (parts_pass words kind key document number key_is document_is is)
 
--- by the last test
+-- where all other tests pass, the test of the document decides whether words have parts
 pub parts_decided : (words : List ℕ) → length words ≡ 144 → ((k : ℕ) → get_or words k 0 < 2 ^ 64) → get_or words 1 0 ≤ 64 → get_or words 2 0 ≤ 1024 → All (λ w. w ≡ 0) (take 4 (drop 4 words)) → IsPadded (get_or words 1 0) (take 8 (drop 8 words)) →
     (answer : Bool) → Decides answer (IsPadded (get_or words 2 0) (take 128 (drop 16 words))) → MatchBool answer (HaveParts words) (HaveNoParts words)
 parts_decided words long fits key_short document_short free key true decides =

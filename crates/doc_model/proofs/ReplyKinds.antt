@@ -160,13 +160,13 @@ pub reply_document_text : (reply : Reply) → IsReply reply → IsShortText 1024
 reply_document_text (Doc document) is = document_text document is
 reply_document_text _ is = no_text 1024
 
--- they are a reply's
+-- the parts of a reply pass the test of being a reply's
 pub reply_has : (reply : Reply) → IsReply reply → has_reply (reply_kind reply) (reply_key reply) (reply_document reply) (reply_number reply) ≡ true
 reply_has (Doc document) is = and_from (true && is_document document) true (document_passes document is) refl
 reply_has (Key key) is = and_from (has_key_only key []) true (and_from (is_key key) true (key_passes key is) refl) refl
 reply_has reply is = refl
 
--- and of this one
+-- the reply with the parts of a reply is that reply
 pub reply_again : (reply : Reply) → HasWordNumber reply → reply_with (reply_kind reply) (reply_key reply) (reply_document reply) (reply_number reply) ≡ reply
 reply_again (Sum sum) fits = ap Sum (to_z-of_z w64 sum fits)
 reply_again reply fits = refl
@@ -189,7 +189,7 @@ replies_same one other one_is one_fits other_is other_fits same =
     one one_is one_fits (same ∙ reply_words_are other)).1
     ∙ reply_again other other_fits
 
--- words that have these parts, and the reply that has them where one has
+-- of which reply, if any, words with these parts are the words
 module _ (words : List ℕ) (kind : ℕ) (key document : List ℕ) (number : ℕ) (are : words ≡ words_with kind key document number)
     (small : number < 2 ^ 64) (key_is : IsShortText 64 key) (document_is : IsShortText 1024 document) where
   pub reply_found : (reply : Reply) → has_reply kind key document number ≡ true → reply ≡ reply_with kind key document number → IsReplyOf words reply

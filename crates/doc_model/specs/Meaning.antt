@@ -1,4 +1,5 @@
--- What each operation of the document store means: its reply, and the store after it. A reply depends on the pairs alone, but for those with a revision.
+-- What each operation of the document store means: its reply, and the store after it. Of the store a reply depends on the pairs alone, but for those to
+-- `PutIf` and `Rev`.
 use Rattle.std.specs.Prelude.{◌-◌, ℕ, Bool, true, false, nat_le, ◌==◌, List, [], ◌∷◌, ◌++◌, length, filter, Option, None, Some, is_some, if◌then◌else◌, ℤ, pos, ◌+ℤ◌}
 use Rattle.std.specs.Option.{option_map, option_map_or}
 use Rattle.std.specs.Ordering.{is_lt, is_eq}
@@ -117,7 +118,7 @@ reply_to lines store Count = Number (length (pairs_in store))
 reply_to lines store (PutIf key revision document) = put_if_reply lines store key revision document
 reply_to lines store (Rev key) = option_map_or Revision (revision_at key store) Absent
 
--- the store after it
+-- the store after an operation, in a store that has the given number of lines
 abbrev pub store_after : ℕ → RevisedStore → Op → RevisedStore
 store_after lines store (Put key document) = store_after_put lines store key document
 store_after lines store (Del key) = removed key store

@@ -10,7 +10,7 @@ pub record RevisedStore : Type 0 where
   pub last : ℕ
   pub triples : List ((List ℕ × List ℕ) × ℕ)
 
--- its pairs alone
+-- the pairs of a store, without their revisions
 abbrev pub pairs_in : RevisedStore → Store
 pairs_in store = map (λ t. t.0) store.triples
 

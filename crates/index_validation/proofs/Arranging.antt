@@ -67,7 +67,7 @@ arranged_count ws head store tree places given loose a =
     let pairs = a.pair_count in
     omega (arith, nodes, pairs, items_count tree, placed_count ws places store a.nodes.pairs)
 
--- its nodes in order
+-- the nodes of the pairs' places are those of the tree, in order
 pub arranged_nodes : (ws : List ℕ) (head : RevisionHead) (store : Store) (tree : Tree ℕ) (places : List PairLayout) (given loose : List ℕ) → IsLaidOut ws head store tree places given loose →
     nodes_of places ≡ nodes_in_order (word_of ws 0 1) ws
 arranged_nodes ws head store tree places given loose a =

@@ -64,7 +64,7 @@ read_more ws first count i line next v into l room r word after lines bytes h c 
       front = below_more (λ k. get_or (set into i v) k 0 ≡ packed_at bytes k) i (λ k b. (let ne : k ≢ i = omega arith in rw get_or-set_other (so.front k b))) (rw get_or-set_same is);
     }
 
--- all words read, the others 0
+-- where all words of a text's blocks were read, and the others are 0, they are the packed words of the text
 pub read_all : (ws : List ℕ) (first count i line : ℕ) (into : List ℕ) → i ≡ count → ReadSoFar first count i line into ws → ((k : ℕ) → i ≤ k → get_or into k 0 ≡ 0) →
     (lines bytes : List ℕ) → Holds ws first lines bytes → count ≡ (length bytes + 7) / 8 → into ≡ packed (length into) bytes
 read_all ws first count i line into e r rest lines bytes h c =

@@ -82,7 +82,7 @@ all_from_lines ws old now end h g a =
     ap (λ ps. count_of x (flat_map lines_at ps ++ a.given)) places ∙ ap (λ ls. count_of x (flat_map lines_at h.places ++ ls)) given in
     is_marked (get_or end x false) (omega (arith, marked_times ws old now end h g x, a.once x, same, in_line x (length old) (omega arith)))))
 
--- no mark is set in a list of marks that are not
+-- in a list of marks of which none is set, none is set at any place
 all_false : (n x : ℕ) → get_or (replicate n false) x false ≡ false
 all_false zero x = refl
 all_false (suc n) zero = refl

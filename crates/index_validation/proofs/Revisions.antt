@@ -34,7 +34,7 @@ all_places P ws (place ∷ places) (pair ∷ store) n all =
     All-cons (λ p. P p.revision) place places (All-head (λ t. P t.1) (pair, place.revision) (triples_of places store) all)
     (all_places P ws places store n.1 (All-tail (λ t. P t.1) (pair, place.revision) (triples_of places store) all))
 
--- they are read off the words
+-- the pairs with their revisions that are read off words are those that stand there
 triples_are : (ws : List ℕ) (places : List PairLayout) (store : Store) → Placed ws places store → map (pair_at ws) (nodes_of places) ≡ store → map (triple_at ws) (nodes_of places) ≡ triples_of places store
 triples_are ws [] store n e = refl
 triples_are ws (p ∷ places) [] n e = absurd n

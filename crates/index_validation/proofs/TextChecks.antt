@@ -52,7 +52,7 @@ pub record ClearedSoFar (ws : List ℕ) (first count : ℕ) (content : List ℕ)
   pub front : (lines : List ℕ) → IsChain ws first lines → length lines ≡ count → (k : ℕ) → k < 7 * count → get_or content k 0 ≡ word_of ws (get_or lines (k / 7) 0) (1 + k % 7)
   pub behind : (k : ℕ) → 7 * count ≤ k → k < i → get_or content k 0 ≡ 0
 
--- where the first bytes are within the limits and those behind them are 0, they are filled so
+-- bytes of which the first `len` are within the limits and those behind them are 0 are filled
 pub filled : (bytes : List ℕ) (len least most : ℕ) → All (AreBytesBetween least most) (take len bytes) → All (λ b. b ≡ 0) (drop len bytes) → IsFilled bytes len least most
 filled bytes len least most front behind = record {
   front = front;
@@ -65,7 +65,7 @@ filled bytes len least most front behind = record {
       ]);
 }
 
--- the bytes behind the first ones are 0, where they are filled so
+-- of filled bytes those behind the first `len` are 0
 pub zeros_behind : (bytes : List ℕ) (len least most : ℕ) → IsFilled bytes len least most → All (λ b. b ≡ 0) (drop len bytes)
 zeros_behind bytes len least most f =
     All-from_get_or (λ b. b ≡ 0) (drop len bytes) 0 (λ i l. get_or-drop len bytes i 0 ∙ f.behind (len + i) (omega arith))
@@ -75,7 +75,7 @@ same_words : (bytes others : List ℕ) → ((k : ℕ) → get_or bytes k 0 ≡ g
 same_words bytes others same i =
     omega (arith, same (8 * i), same (8 * i + 1), same (8 * i + 2), same (8 * i + 3), same (8 * i + 4), same (8 * i + 5), same (8 * i + 6), same (8 * i + 7))
 
--- of bytes that are 0 behind the first ones, the first ones alone have the same bytes
+-- the first `len` of filled bytes, with 0 read behind them, are the same at each place as all of the bytes
 front_is : (bytes : List ℕ) (len least most : ℕ) → IsFilled bytes len least most → (k : ℕ) → get_or (take len bytes) k 0 ≡ get_or bytes k 0
 front_is bytes len least most f k =
     elim (cases_lt k len) [

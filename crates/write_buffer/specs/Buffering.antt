@@ -69,7 +69,7 @@ covered_free (suc n) places values under at free =
     get_or-set_other (covered n places values under) (slice_index places n) at (slice_index values n) 0 (λ e. free n (omega arith) (sym e))
     ∙ covered_free n places values under at (λ i l. free i (omega (arith, l)))
 
--- at the place of each word that is held back, and each is held back once, its value stands
+-- where no two words held back have the same place, at the place of each of them its value stands
 covered_held : (n : ℕ) (places values under : List ℕ) → ((i : ℕ) → i < n → slice_index places i < length under) →
     ((i j : ℕ) → i < n → j < n → slice_index places i ≡ slice_index places j → i ≡ j) →
     (i : ℕ) → i < n → slice_index (covered n places values under) (slice_index places i) ≡ slice_index values i
