@@ -27,9 +27,9 @@
 //!   least caller that had it; with `Halt` some of these steps are left, and it is told which: `collect` (`collected`: `EndsCollecting`).
 //!
 //! Tested (`table_tests`): two threads that each link one entry, whose tickets are 0 and 1 and the seats' (that the history which `gather` then
-//! gives is these two entries, each once, in one order or the other, is proved: `closed_after_both`); each limit from 0 to 148, of which those
-//! below 147 halt; the last ticket, where one links and the next is `Worn`; both entries read by both callers; a reading at five limits;
-//! tickets protected, and a place below LOW that is not; another caller's need noted by a collection; a collection at each limit.
+//! gives is these two entries, each once, in one order or the other, is proved: `closed_after_both`); an entry that is linked, protected and read,
+//! at each limit of steps; tickets protected, and a place below LOW that is not; another caller's need noted by a collection; a collection at
+//! each limit. Also (`service_tests`): each limit of steps until a link, and the last ticket, behind which there is none left.
 #![tactic(auto)]
 
 mod announcement;

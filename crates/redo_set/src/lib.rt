@@ -26,7 +26,7 @@
 //!   seat changes but the steps (`leaves`: `KeepsNoting`), so no clause says which gaps the words name; each names one that the set leaves untouched.
 //!
 //! Tested (`table_tests`): one address noted twice, each limit of its two stores, one set that is emptied and used again, and 256 pairs with a
-//! 257th that is refused; a set that is written at each limit of steps, and found not to be offered at each limit.
+//! 257th that is refused; a set that is written and offered, at each limit of steps; one that another caller takes, and the images that both leave.
 #![tactic(auto)]
 
 mod apply;

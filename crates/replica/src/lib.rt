@@ -27,10 +27,11 @@
 //!   most for each ticket between, of as many as the ring keeps, beside three for each word and one (`within`: `StepsWithin`), also where it halts.
 //!
 //! Tested (`table_tests`): a caller takes a replica, replays its own linked entry, flushes and downgrades, and another caller reads place,
-//! number and reply there; each limit of steps from 0 to 454, the first that does not halt; each limit of steps of a run of loads, by the words
-//! that it leaves and the steps made; 1,000 entries of Tally on a region against a plain memory, word by word; a copy in the opening state,
-//! after which nothing is dirty; copies over a replica that differs in one word, in a line, in all, and flushes of as many words as a seat
-//! lists, one fewer, one more and twice as many, by the steps that they make.
+//! number and reply there; each limit of steps up to the first that does not halt; 1,000 entries of Tally on a region against a plain memory,
+//! word by word; a copy in the opening state, after which nothing is dirty, and flushes of no word, of as many as a seat lists, one fewer, one
+//! more, more than twice as many, and all, by the steps that they make; the replica of an update copied over another, by the steps that it
+//! makes, and a table closed after each of them, in which the words stored so far are those of a plain model, and none of them is durable
+//! yet.
 //!
 //! Also (`table_tests`): 1,000 mixed commands of the document store on a replica held exclusively, all words of which are those of a plain
 //! memory after each; a table closed at each limit of steps of an update's replay, flush and downgrade, whose marks and words in both memories

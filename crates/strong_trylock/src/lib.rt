@@ -18,8 +18,8 @@
 //!   a downgraded right is one step that ends that right and no other: `downgrade` (`made`: `Downgrades`), `release`, `release_shared`,
 //!   `release_downgraded` (`made`: `Ends`). Each halts exactly at the limit, with nothing changed: `halted`.
 //!
-//! Tested (`table_tests`): the lock words of two callers over four replicas; a right of each kind but a win begun and released, and what the
-//! other caller then finds; each limit from 0 to 2 of a shared try that is refused, and the mark that is left with a limit of 1.
+//! Tested (`table_tests`): each limit from 0 to 2 of a shared try that is refused, the word that it finds, and the mark that is left with a limit of
+//! 1, which refuses an exclusive try; two threads that take replicas from each other, downgrade and release.
 #![tactic(auto)]
 
 mod try_lock;

@@ -102,10 +102,20 @@ fn flush_or_copy(
     }
 }
 
-// What a table left whose caller stored and flushed `flushed` words, or copied a replica where that is `None`.
+// The steps of a caller: a try, and each word stored once and persisted once; or, where `flushed` is `None`, two tries, and each word of two replicas
+// loaded once.
+fn steps_of(flushed: Option<u64>) -> u64 {
+    match flushed {
+        Some(count) => count.saturating_mul(2).saturating_add(1),
+        None => 2 + 2 * REGION,
+    }
+}
+
+// What a table left whose caller stored and flushed `flushed` words, or copied a replica where that is `None`, in as many steps as that takes.
 fn left_by(alloc: Global, flushed: Option<u64>) -> Result<Option<Remains>, AllocError> {
     let (shared, mut first, second) = made(alloc, Tally, &NO_LIMITS)?;
-    let is_done = flush_or_copy(&shared, &mut first, flushed) == Ok(true);
+    let is_done = flush_or_copy(&shared, &mut first, flushed) == Ok(true)
+        && first.steps() == steps_of(flushed);
     let left = closed(alloc, shared, first, second)?;
     Ok(if is_done { left } else { None })
 }

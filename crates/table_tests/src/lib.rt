@@ -1,18 +1,14 @@
 //! The running table has the words of the state machine as atomic words, and each of its calls may stop at any step, where its caller's limit is
 //! reached. The contracts say what stands then; here it is seen.
 //!
-//! Steps, try-locks, the operation log, replicas, turns and write sets are called by one caller and by two on threads. At each limit of steps
-//! within an update and within a copy, what is left is compared with a plain model that makes the same steps. The crate has tests alone.
+//! Try-locks, the operation log, replicas, publications, turns and write sets are called by one caller and by two, some on threads. At each limit of
+//! steps within an update and within a copy, what is left is compared with a plain model that makes the same steps. The crate has tests alone.
 #![tactic(auto)]
 
 #[cfg(test)]
 mod commands;
 #[cfg(test)]
-mod copies;
-#[cfg(test)]
 mod copy_tests;
-#[cfg(test)]
-mod entry_reads;
 #[cfg(test)]
 mod flush_tests;
 #[cfg(test)]
@@ -34,8 +30,6 @@ mod replayed;
 #[cfg(test)]
 mod ring;
 #[cfg(test)]
-mod steps;
-#[cfg(test)]
 mod tables;
 #[cfg(test)]
 mod thread_tests;
@@ -43,5 +37,3 @@ mod thread_tests;
 mod trylocks;
 #[cfg(test)]
 mod turns;
-#[cfg(test)]
-mod write_sets;

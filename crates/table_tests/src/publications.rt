@@ -8,8 +8,8 @@ ghost use Rattle.replica.specs.Held.{IsSized};
 ghost use Rattle.table_tests.specs.Replaying.{GivenBack, IsNew};
 
 use crate::holds::holds;
-use crate::replayed::{adds, renew, update};
-use crate::tables::{NO_LIMITS, closed, made};
+use crate::replayed::{adds, renew};
+use crate::tables::{NO_LIMITS, closed, made, update};
 use cx_base::tally::Tally;
 use cx_base::{Halt, Object, root_place};
 use cx_table::{CallerSeat, Downgraded, Shared, Won};

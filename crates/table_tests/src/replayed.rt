@@ -1,24 +1,23 @@
 //! A replica is taken, replayed with linked entries, made durable and released.
 
-ghost use Rattle.std.specs.Prelude.{◌≡◌, ◌+◌, ◌*◌, ◌∷◌, ◌≤◌, ◌<◌, IfOk, IfSome, OnOk, length};
+ghost use Rattle.std.specs.Prelude.{◌≡◌, ◌+◌, ◌*◌, ◌∷◌, ◌≤◌, ◌<◌, IfOk, IfSome, OnOk};
 ghost use Rattle.cx_base.specs.Memory.{Words};
 ghost use Rattle.cx_core.specs.declared.local.Protection.TheVariants.{Confirmed, Unprotected};
-ghost use Rattle.cx_core.specs.Region.{region_words};
 ghost use Rattle.cx_core.specs.RingEvents.{Protects};
 ghost use Rattle.table_invariant.specs.Running.{IsSeatOf};
 ghost use Rattle.cx_table.specs.Tokens.{IsDowngradedOf};
 ghost use Rattle.replica.specs.Held.{IsHeldShared, IsSized};
 ghost use Rattle.replica.specs.Laws.{IsTaken};
 ghost use Rattle.replica.specs.Replays.{ComesNext, IsReady};
-ghost use Rattle.table_tests.specs.Replaying.{IsFree, IsNew, Keeps, KnowsLinked};
+ghost use Rattle.table_tests.specs.Replaying.{IsFree, IsNew, Keeps};
 
 use crate::holds::holds;
-use crate::tables::{NO_LIMIT, NO_LIMITS, made};
+use crate::tables::{NO_LIMIT, NO_LIMITS, made, update};
 use cx_base::tally::Tally;
 use cx_base::{Halt, Memory, Object};
 use cx_core::Entry;
 use cx_table::{CallerSeat, Downgraded, Exclusive, Shared, SharedHold};
-use mutation_queue::{LinkTried, Protected, announce, entry, link, protect, unprotect};
+use mutation_queue::{LinkTried, Protected, entry, protect, unprotect};
 use replica::{ReadRegion, Region, begin, flush, outcome, place, replay_one};
 use std::alloc::{AllocError, Global};
 use std::test::Fail;
@@ -168,20 +167,6 @@ pub(crate) fn renew<O: Object>(
     Ok(Some(token))
 }
 
-// A caller without entries announces an operation in its cell 0 and tries to link it.
-pub(crate) fn update<O: Object>(
-    shared: &Shared<O>,
-    seat: &mut CallerSeat,
-    op: &[u64; 144],
-) -> Result<LinkTried, Halt>
-    requires { IsNew shared.now seat.old }
-    ensures free { OnOk result (IsFree shared.now seat.new) }
-    ensures linked { IfOk result (KnowsLinked seat.new) }
-{
-    announce(shared, seat, 0, op)?;
-    link(shared, seat, 0, 4)
-}
-
 // What a caller sees of a replica: its place, the number and the reply of caller 0, and its first two words.
 #[derive(Drop)]
 struct Seen {
@@ -260,24 +245,6 @@ fn is_own_replayed(alloc: Global) -> Result<bool, AllocError> {
     Ok(token.replica() == 1 && token.caller() == 0 && sees(&shared, &mut second, 1, &want))
 }
 
-// Whether a caller that linked an entry has it in its seat, and no other caller and no other ticket does.
-fn is_own_found(alloc: Global) -> Result<bool, AllocError> {
-    let (shared, mut first, second) = made(alloc, Tally, &NO_LIMITS)?;
-    let Ok(LinkTried::Linked { ticket: 0 }) = update(&shared, &mut first, &adds(5)) else {
-        return Ok(false);
-    };
-    let mut found = entry_of(7, &[0; 145]);
-    if second.own_entry(0, &mut found) || first.own_entry(1, &mut found) {
-        return Ok(false);
-    }
-    Ok(
-        first.own_entry(0, &mut found)
-            && found.caller == 0
-            && found.number == 1
-            && found.op == adds(5),
-    )
-}
-
 // The number and a word of the operation, which the cell does not have yet, and 2 steps to link; a try and the load of
 // the place; 2 steps to protect it; 146 steps for the entry; for the full step the place loaded, Tally's load and store, the
 // number loaded and stored, the reply loaded and its first word stored, the place stored; 1 step to give the protection up;
@@ -322,68 +289,10 @@ fn update_and_renew<O: Object>(
     }
 }
 
-// A word that no region has when a table is made.
-const OTHER: u64 = 1 << 40;
-
-// Takes replica 1, where nobody holds it, and loads words of it from the address `from` on.
-fn take_and_load<O: Object>(
-    shared: &Shared<O>,
-    seat: &mut CallerSeat,
-    from: u64,
-    into: &mut [u64],
-) -> Result<(), Halt>
-    requires free { IsFree shared.now seat.old }
-    requires sized { IsSized (O.line_count shared.now.object) shared.now }
-    requires callers { shared.now.callers ≡ 2 }
-    requires within { from + length into.old ≤ region_words (O.line_count shared.now.object) }
-{
-    match take(shared, seat, 1)? {
-        Some(held) => Region::of(shared, seat, &held).load_words(from, into),
-        None => Err(Halt),
-    }
-}
-
-// The address of the first of five words, a limit of steps, and the words that are loaded from a replica in the opening state. A try is one
-// step, and each load is one. A word that was not loaded is `OTHER`. The first word of the object part is Tally's version, 7.
-const LOADS: [(u64, u64, [u64; 5]); 10] = [
-    (1166, 0, [OTHER, OTHER, OTHER, OTHER, OTHER]),
-    (1166, 1, [OTHER, OTHER, OTHER, OTHER, OTHER]),
-    (1166, 2, [0, OTHER, OTHER, OTHER, OTHER]),
-    (1166, 3, [0, 0, OTHER, OTHER, OTHER]),
-    (1166, 4, [0, 0, 7, OTHER, OTHER]),
-    (1166, 5, [0, 0, 7, 0, OTHER]),
-    (1166, 6, [0, 0, 7, 0, 0]),
-    (1166, 7, [0, 0, 7, 0, 0]),
-    (0, 6, [0, 0, 0, 0, 0]),
-    (0, 3, [0, 0, OTHER, OTHER, OTHER]),
-];
-
-// Whether the loads of five words from `from` on halt exactly at a limit of steps below 6, and the words loaded are those wanted.
-fn loads_at(alloc: Global, from: u64, limit: u64, want: &[u64; 5]) -> Result<bool, AllocError>
-    requires { from ≤ 1675 }
-{
-    let (shared, mut first, _second) = made(alloc, Tally, &[limit, NO_LIMIT])?;
-    let mut words = [OTHER; 5];
-    let is_done = take_and_load(&shared, &mut first, from, &mut words).is_ok();
-    Ok(is_done == (limit >= 6) && first.steps() == limit.min(6) && words == *want)
-}
-
-// The number of the first row of `LOADS` whose loads halt elsewhere, or give other words.
-fn first_wrong_loads(alloc: Global) -> Result<Option<usize>, AllocError> {
-    for (i, (from, limit, want)) in LOADS.iter().enumerate() {
-        if *from > 1675 || !loads_at(alloc, *from, *limit, want)? {
-            return Ok(Some(i));
-        }
-    }
-    Ok(None)
-}
-
 #[test]
 fn entries_are_replayed_unless_a_limit_halts(rt: HostRuntime) -> Result<(), Fail> {
     let alloc = rt.alloc();
     holds(&rt, is_own_replayed(alloc)?);
-    holds(&rt, is_own_found(alloc)?);
     holds(&rt, first_wrong_limit(alloc)?.is_none());
-    holds(&rt, first_wrong_loads(alloc)?.is_none());
     Ok(())
 }

@@ -4,7 +4,8 @@ ghost use Rattle.std.specs.Prelude.{◌≡◌, ◌^◌, ◌≤◌, None, IfSome,
 ghost use Rattle.cx_table.specs.Running.{IsSeatOf};
 
 use crate::holds::holds;
-use crate::links::{NO_LIMIT, made};
+use crate::links::made;
+use crate::tables::{NO_LIMIT, NO_LIMITS};
 use cx_base::tally::Tally;
 use cx_base::{Halt, root_place};
 use cx_core::Protection;
@@ -96,7 +97,7 @@ fn protects_from(seat: &CallerSeat, place: u64) -> bool {
 // Whether LOW, which is 100, is compared with the place: 99 is behind it, and 100 is kept.
 fn is_low_compared(alloc: Global) -> Result<bool, AllocError> {
     // LOW and FREE open at the place of the base
-    let (shared, mut first, _second) = made(alloc, 100, &[NO_LIMIT, NO_LIMIT])?;
+    let (shared, mut first, _second) = made(alloc, 100, &NO_LIMITS)?;
     let is_behind = matches!(
         try_protect(&shared, &mut first, 99),
         Some(Ok(Protected::Behind { low: 100 }))
@@ -126,7 +127,7 @@ fn is_collected(
 
 // Whether a caller that collects finds the need of another caller, which is 103, and none where no caller needs a ticket. FREE stays 100.
 fn is_need_noted(alloc: Global) -> Result<bool, AllocError> {
-    let (shared, mut first, mut second) = made(alloc, 100, &[NO_LIMIT, NO_LIMIT])?;
+    let (shared, mut first, mut second) = made(alloc, 100, &NO_LIMITS)?;
     let beside_need = collect_beside(&shared, &mut first, &mut second, 100, 103);
     let without_need = try_collect(&shared, &mut second, 90);
     Ok(

@@ -1,12 +1,11 @@
 //! Tables of two callers, and how they end.
 
-ghost use Rattle.std.specs.Prelude.{◌≡◌, ◌≤◌, IfOk, IsTrue, OnOk};
+ghost use Rattle.std.specs.Prelude.{◌≡◌, ◌≤◌, [], ◌∷◌, IfOk, IfSome, IsTrue, OnOk};
 ghost use Rattle.table_invariant.specs.Running.{IsSeatOf};
 ghost use Rattle.mutation_queue.specs.Tests.{IsPairOf};
-ghost use Rattle.table_tests.specs.Replaying.{IsNew};
+ghost use Rattle.table_tests.specs.Replaying.{IsFree, IsNew, KnowsLinked};
 ghost use Rattle.strong_trylock.specs.Held.{all_rights, no_rights};
 
-use crate::links::two;
 use cx_base::{Halt, Object};
 use cx_core::Base;
 use cx_table::{CallerSeat, Remains, Shared};
@@ -41,6 +40,19 @@ pub(crate) fn made<O: Object>(
     }
 }
 
+/// The items of a list of two.
+pub(crate) fn two<T: Drop>(mut items: Vec<T>) -> Option<(T, T)>
+    ensures { IfSome result (λ r. items.items ≡ r.0 ∷ r.1 ∷ []) }
+{
+    let second = items.pop()?;
+    let first = items.pop()?;
+    if items.is_empty() {
+        Some((first, second))
+    } else {
+        None
+    }
+}
+
 /// A caller without entries announces an operation in its cell 0 and tries to link it.
 pub(crate) fn update<O: Object>(
     shared: &Shared<O>,
@@ -48,7 +60,9 @@ pub(crate) fn update<O: Object>(
     op: &[u64; 144],
 ) -> Result<LinkTried, Halt>
     requires { IsNew shared.now seat.old }
-    ensures free { OnOk result (all_rights seat.new ≡ no_rights) }
+    ensures free { OnOk result (IsFree shared.now seat.new) }
+    ensures rights { OnOk result (all_rights seat.new ≡ no_rights) }
+    ensures linked { IfOk result (KnowsLinked seat.new) }
     ensures seat { IsSeatOf shared.now seat.new }
 {
     announce(shared, seat, 0, op)?;
