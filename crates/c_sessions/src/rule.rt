@@ -8,7 +8,7 @@ use std::alloc::Global;
 use std::collections::LinkedList;
 use std::sync::Arc;
 
-/// A caller that is handed in, with its share of the service: who has all of them has all shares, so the service is nobody else's. Where the queue
+/// A caller that is handed in, with its share of the service. Where the queue
 /// is opened, a share goes through it alone, by which the first pass learns the service.
 #[derive(Drop)]
 pub struct HandedIn<O: Object> {
