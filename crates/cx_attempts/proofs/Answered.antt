@@ -47,7 +47,7 @@ module _ {O : Type 0} (o : Ghosts O) (r : Running O) (ticket : ℕ) (reply : Lis
   still_last : (before after : Seated) → unchanged_by_publish after ≡ unchanged_by_publish before → unanswered_ticket before.known.local ≡ Some ticket → unanswered_ticket after.known.local ≡ Some ticket
   still_last before after rest last = ap (λ (s : Seated). unanswered_ticket s.known.local) rest ∙ last
 
-  -- a caller that rests but for its publication does so after it
+  -- a caller that is at rest but for what a publication changes is so after the publication
   still_rests : (before after : Seated) → unchanged_by_publish after ≡ unchanged_by_publish before → IsAtRest (unchanged_by_publish before).known.local → IsAtRest (unchanged_by_publish after).known.local
   still_rests before after rest at = subst (λ (s : Seated). IsAtRest s.known.local) (sym rest) at
 
@@ -155,7 +155,7 @@ module _ {O : Type 0} (o : Ghosts O) (r : Running O) (code ticket : ℕ) (reply 
       ∙ ap (λ rs. (let s : Seated = record b { known = record b.known { local = record b.known.local { seen_reads = rs }; times = record b.known.times { reads = b.known.times.reads ++ [] } } } in s)) (append-nil before.known.local.seen_reads)
       ∙ ap (λ rs. (let s : Seated = record b { known = record b.known { times = record b.known.times { reads = rs } } } in s)) (append-nil before.known.times.reads)
 
-  -- what it leaves of the seat
+  -- a raise makes at most one step, and changes only what settling an answer changes
   pub raised_leaves : KeepsSeatIn r unchanged_by_settling 1 before after
   raised_leaves = (let one = ap (λ (s : Seated). s.known.local.steps) by.made in record { seat = by.seat; since = on_one before after one; rest = raised_rest; steps = omega (arith, one) })
 

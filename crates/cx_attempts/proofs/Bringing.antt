@@ -18,12 +18,12 @@ brings_none s v same = record { count = 0; on = none_yet 0 v refl same; read = a
 brings_one : (s v : Seated) (ticket : ℕ) (set : List ℕ) → StoresSet ticket set s v → BringsEntries s v
 brings_one s v ticket set stores = record { count = 1; on = one_more 1 v 0 s v ticket set refl (none_yet 0 s refl refl) stores refl; read = stores.read }
 
--- and then nothing more
+-- the sets read from `s` to `u` are those read from `s` to `v`, where no word of a set was read from `u` to `v`
 on_later : (s : Seated) (n : ℕ) (u : Seated) → BringsOn s n u → (k : ℕ) (v : Seated) → k ≡ n → v.known.sets ≡ u.known.sets → BringsOn s k v
 on_later s n u (none_yet _ _ zero same) k v is still = none_yet k v (is ∙ zero) (still ∙ same)
 on_later s n u (one_more _ _ first mid next ticket set more on stores kept) k v is still = one_more k v first mid next ticket set (is ∙ more) on stores (still ∙ kept)
 
--- and then more
+-- n sets read from `s` to `u`, and m from `u` to `v`, are n + m sets read from `s` to `v`
 on_then : (s : Seated) (n : ℕ) (u : Seated) → BringsOn s n u → (m : ℕ) (v : Seated) → BringsOn u m v → BringsOn s (n + m) v
 on_then s n u before m v (none_yet _ _ zero same) = on_later s n u before (n + m) v (omega (arith, zero)) same
 on_then s n u before m v (one_more _ _ first mid next ticket set more on stores kept) =

@@ -124,7 +124,7 @@ pub put_words : (xs : List ℕ) (v : ℕ) (words : List ℕ) → 0 < length xs �
 put_words [] v words some = absurd (omega arith)
 put_words (x ∷ xs) v words some = ap (λ ys. v ∷ (words ++ ys)) (drop_all (length (v ∷ xs) - 1) xs (omega arith)) ∙ ap (λ ys. v ∷ ys) (append-nil words)
 
--- so many others there are
+-- a list whose words behind the first are as many as `words` has one word more than `words`
 pub rest_length : (xs : List ℕ) (v : ℕ) (words : List ℕ) → 0 < length xs → length words ≡ length (take (length (set xs 0 v) - 1) (drop 1 (set xs 0 v))) → length xs ≡ 1 + length words
 rest_length xs v words some is = omega (arith, is, length-set xs 0 v, length-drop 1 (set xs 0 v), length-take (length (set xs 0 v) - 1) (drop 1 (set xs 0 v)), some)
 
@@ -175,7 +175,7 @@ module _ {O : Type 0} (o : Ghosts O) (r : Running O) (hold : Right) (first s : S
           (ap (is_at hold.replica) raised_holds ∙ at_itself hold.replica) in
           steps.made ∙ ap taking off
 
-      -- its times
+      -- the times of the image that is taken
       abbrev image_now : ImageTimes
       image_now = record {
         begun = u.known.times.loaded;

@@ -88,7 +88,7 @@ module _ {O : Type 0} (o : Ghosts O) (r : Running O) (before after : Seated) (he
         alone = ap (λ (a : AllRights). with a after) rights ∙ ap (with (all_rights before)) same ∙ was.alone;
       }
 
-  -- and one that was not refused leaves both held
+  -- a try of the current replica that was not refused leaves both replicas held
   pub holds_source : (source : Right) → IsSeatOf r after → unchanged_by_read after ≡ unchanged_by_read before → HoldsCurrent o r (all_rights before) before after source → IsAtImage o r before held → before.known.local.protection ≡ Unprotected → HoldsSource o r after held source
   holds_source source seat same taken was none =
       let with : AllRights → Seated → Others = λ a s. record { shared = a.shared; passer = a.passer; downgraded = a.downgraded; won = a.won; scan = s.known.local.scan; refused = s.known.local.refused } in
@@ -104,7 +104,7 @@ module _ {O : Type 0} (o : Ghosts O) (r : Running O) (before after : Seated) (he
         fresh = taken.fresh;
       }
 
-  -- so the lines alone may be copied that changed
+  -- after a try of the current replica that was not refused, the lines alone may be copied that changed
   pub may_list : (source : Right) → unchanged_by_read after ≡ unchanged_by_read before → HoldsCurrent o r (all_rights before) before after source → IsAtImage o r before held → StoresNone before.known.accesses → MayList (root_place_of r.callers after.known.local.seen_cur) after
   may_list source same taken was none =
       let accesses : after.known.accesses ≡ before.known.accesses = ap (λ (s : Seated). s.known.accesses) same in

@@ -42,7 +42,7 @@ ready_read o r caller ticket at words before after held of read fits was = recor
   place = ap noted_place read.seat ∙ was.place;
 }
 
--- it still does where what is noted of entries stayed
+-- an entry that was read comes next still where what is noted of entries stayed
 pub offered_comes : {O : Type 0} (o : Ghosts O) (r : Running O) (at : ℕ) (entry : Entry) (before mid after : Seated) → ReadsNext o r at entry before mid → after.known.noted ≡ mid.known.noted → noted_place after ≡ at → ComesNext entry after
 offered_comes o r at entry before mid after next same place = record {
   had = subst (λ p. HasEntry (entries_of after.known) p entry) (sym place) (inl (subst (λ ns. IsNoted ns at entry) (sym same) next.noted.noted));
@@ -50,7 +50,7 @@ offered_comes o r at entry before mid after next same place = record {
   small = subst (λ p. p < 2 ^ 40) (sym place) next.noted.small;
 }
 
--- so does an own one that stands in the seat's memory
+-- an own entry that stands in the seat's memory with the replica's place as its ticket comes next
 pub own_comes : (at : ℕ) (entry : Entry) (seat : Seated) → IsOwnEntry seat.known.local.own seat.known.local.number at entry → seat.known.local.number < 8 → noted_place seat ≡ at → ComesNext entry seat
 own_comes at entry seat mine few place = record {
   had = subst (λ p. HasEntry (entries_of seat.known) p entry) (sym place) (inr mine.own);
@@ -65,7 +65,8 @@ may_still r at before after of front protection was = record {
   later = was.later;
 }
 
--- an entry of another caller was applied: the replica is ready at the next place, and nothing is asked of the reply
+-- An entry was applied that is another caller's, or the caller's own by its write set: the replica is ready at the next place, and nothing is said of
+-- the reply.
 pub applied_alone : {O : Type 0} (o : Ghosts O) (r : Running O) (held : Right) (at : ℕ) (reply : List ℕ) (seat : Seated) → IsReady o r held (at + 1) seat → IsApplied o r held at reply seat false
 applied_alone o r held at reply seat ready = record { ready = ready; replied = λ own. absurd (false≢true own) }
 

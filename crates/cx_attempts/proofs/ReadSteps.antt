@@ -27,14 +27,14 @@ module _ {O : Type 0} (lines : ℕ) (r : Running O) (step : O → List ℕ → L
   current : found ≡ root_place_of r.callers before.known.local.seen_cur → is_outdated (instance_at r step reads) held.replica 0 before.known.local found ≡ false
   current is = and_right (0 == 0) _ (and_right _ _ (and_right _ _ (ap (λ b. cond b false true) (eq-eqb found _ is))))
 
-  -- so it is a load of the replica held shared
+  -- where the place found is that of the code last loaded from CUR, the load is one of the replica held shared
   pub current_loads : (q : ℕ) → q ≡ held.replica → found ≡ root_place_of r.callers before.known.local.seen_cur → IsHeldShared lines r lawful before held → Steps r step reads (marked_load (instance_at r step reads) q 0 true before.known.local found) found before after →
       Fitting r.lines lawful r.base (step r.object) after.known → LoadsShared lines r lawful held 0 found before after
   current_loads q at is of s fits =
       let here = subst (λ n. Steps r step reads (marked_load (instance_at r step reads) n 0 true before.known.local found) found before after) at s in
       load_shared_loads lines r step reads lawful held 0 found before after of (subst (λ b. Steps r step reads (LoadWord held.replica 0 b) found before after) (current is) here) fits
 
-  -- and the place is among the words loaded
+  -- the place that a load of the replica held shared found is among the words loaded
   pub current_loaded : LoadsShared lines r lawful held 0 found before after → Contains (loaded_of after.known.local.shared) (0, found)
   current_loaded made = subst (λ xs. Contains xs (0, found)) (sym made.loaded) (Contains-push (loaded_of before.known.local.shared) (0, found))
 

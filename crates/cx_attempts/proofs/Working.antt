@@ -32,18 +32,18 @@ work_beside r s =
     ap (λ o. with_rights s o (option_map except_shared_loads (option_map (except_loaded r) s.known.local.shared))) (words_once s.known.local.exclusive)
     ∙ ap (λ o. with_rights s (option_map except_words s.known.local.exclusive) o) (loads_once r s.known.local.shared)
 
--- an access of the replica is such work
+-- what an access of the replica changes, work on the replica may change
 pub work_held : (r : ℕ) (before after : Seated) → unchanged_by_access r after ≡ unchanged_by_access r before → unchanged_by_work after ≡ unchanged_by_work before
 work_held r before after same = sym (work_beside r after) ∙ ap unchanged_by_work same ∙ work_beside r before
 
--- and such replay
+-- what an access of the replica changes, replay may change
 pub replay_held : (r : ℕ) (before after : Seated) → unchanged_by_access r after ≡ unchanged_by_access r before → unchanged_by_replay after ≡ unchanged_by_replay before
 replay_held r before after same = ap except_sets (work_held r before after same)
 
 offered_beside : (r : ℕ) (s : Seated) → unchanged_by_replay (unchanged_by_offered r s) ≡ unchanged_by_replay s
 offered_beside r s = ap except_sets (work_beside r s)
 
--- so is what brings it on by another's write set
+-- what bringing the replica on by another's write set changes, replay may change
 pub replay_offered : (r : ℕ) (before after : Seated) → unchanged_by_offered r after ≡ unchanged_by_offered r before → unchanged_by_replay after ≡ unchanged_by_replay before
 replay_offered r before after same = sym (offered_beside r after) ∙ ap unchanged_by_replay same ∙ offered_beside r before
 
@@ -58,7 +58,7 @@ own_beside : (r : ℕ) (s : Seated) → unchanged_by_replay (unchanged_by_own_se
 unfolding with_cells
 own_beside r s = ap (with_cells (unchanged_by_access r s)) (cells_once s.known.local.cells) ∙ ap except_sets (work_beside r s)
 
--- and what does an own entry's step and offers its write set
+-- what doing an own entry's step and offering its write set changes, replay may change
 pub replay_own : (r : ℕ) (before after : Seated) → unchanged_by_own_set r after ≡ unchanged_by_own_set r before → unchanged_by_replay after ≡ unchanged_by_replay before
 replay_own r before after same = sym (own_beside r after) ∙ ap unchanged_by_replay same ∙ own_beside r before
 

@@ -22,7 +22,8 @@ pub record BringsEntries (before after : Seated) : Type 0 where
   pub on : BringsOn before count after
   pub read : sets_read after.known.sets ≡ sets_read before.known.sets + count
 
--- the sets of others that were read from one seat to another are counted: their number was `taken` before and is `now` after
+-- The sets of others that were read from one seat to another are counted: where `taken` is the count of all sets read before, `now` is the count
+-- after.
 pub record CountsEntries (taken : ℕ) (before : Seated) (now : ℕ) (after : Seated) : Type 0 where
   pub counted : KeepsCount taken before now after
   pub by_sets : BringsEntries before after
@@ -32,7 +33,8 @@ abbrev pub BringsIn : {X : Type 0} → Seated → Seated → Option X → Type 0
 BringsIn before after (Some x) = BringsEntries before after
 BringsIn before after None = after.known.sets ≡ before.known.sets
 
--- the sets of others that an attempt read which may give nothing are counted: their number was `taken` before and is `now` after
+-- The sets of others that were read by an attempt that may give nothing are counted: where `taken` is the count of all sets read before it, `now` is
+-- the count after.
 pub record CountsIn {X : Type 0} (taken : ℕ) (before : Seated) (now : ℕ) (after : Seated) (given : Option X) : Type 0 where
   pub counted : KeepsCount taken before now after
   pub by_sets : BringsIn before after given
@@ -42,7 +44,8 @@ abbrev pub BringsInAttempt : Seated → Seated → Bool → Type 0
 BringsInAttempt before after true = BringsEntries before after
 BringsInAttempt before after false = after.known.sets ≡ before.known.sets
 
--- the sets of others that an attempt read which says whether it gave something are counted: their number was `taken` before and is `now` after
+-- The sets of others that were read by an attempt that says whether it gave something are counted: where `taken` is the count of all sets read before
+-- it, `now` is the count after.
 pub record CountsAttempt (taken : ℕ) (before : Seated) (now : ℕ) (after : Seated) (given : Bool) : Type 0 where
   pub counted : KeepsCount taken before now after
   pub by_sets : BringsInAttempt before after given

@@ -96,7 +96,8 @@ pub record MayTakeCurrent {O : Type 0} (r : Running O) (seat : Seated) : Type 0 
   pub free : CanTryShared r.callers (root_replica_of r.callers seat.known.local.seen_cur) seat.known.local
   pub fresh : seat.known.local.fresh ≡ true
 
--- That replica was taken shared, and is not held exclusively, and nothing ended the code's use. Its place is not loaded yet.
+-- The caller holds the replica shared that the code last loaded from CUR names, and not exclusively, and nothing ended the code's use. Nothing is
+-- said of the replica's place.
 pub record HoldsNamed {O : Type 0} (o : Ghosts O) (r : Running O) (seat : Seated) (hold : Right) : Type 0 where
   pub held : IsHeldSharedIn o r seat hold
   pub here : hold.replica ≡ root_replica_of r.callers seat.known.local.seen_cur
@@ -113,14 +114,15 @@ pub record HoldsCurrent {O : Type 0} (o : Ghosts O) (r : Running O) (rights : Al
   pub fresh : after.known.local.fresh ≡ true
   pub met : after.known.local.met ≡ before.known.local.met
 
--- another holds it exclusively, or it is at another place: a refusal is met, and these rights are left
+-- another holds the replica exclusively that the code last loaded from CUR names, or it is at another place: a refusal is met, and these rights are
+-- left
 pub record MissesCurrent (rights : AllRights) (before after : Seated) : Type 0 where
   pub left : all_rights after ≡ rights
   pub fresh : after.known.local.fresh ≡ false
   pub met : after.known.local.met ≡ one_more before.known.local.met
   pub since : StepsOn before after
 
--- the result of taking it
+-- the result of taking the replica shared that the code last loaded from CUR names
 abbrev pub TakesCurrent : {O : Type 0} → Ghosts O → Running O → AllRights → Seated → Seated → Option Right → Type 0
 TakesCurrent o r rights before after (Some hold) = HoldsCurrent o r rights before after hold
 TakesCurrent o r rights before after None = MissesCurrent rights before after

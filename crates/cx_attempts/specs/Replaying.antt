@@ -96,7 +96,8 @@ pub record IsReplayedWith {O : Type 0} (o : Ghosts O) (r : Running O) (held : Ri
   pub ready : IsReady o r held (noted_place seat) seat
   pub replied : IsTrue own → ShowsReplyIn o r seat.known seat.known.local.number reply
 
--- It is the image after the place that it had, no word of it is dirty, and the caller's last entry there has this reply.
+-- A replica held exclusively is the image after the place that it had before, no word of it is dirty, and the caller's last entry there has this
+-- reply.
 pub record IsReplicaSettled {O : Type 0} (o : Ghosts O) (r : Running O) (held : Right) (before after : Seated) (reply : List ℕ) : Type 0 where
   pub ready : IsReady o r held (noted_place before) after
   pub clean : IsFlushed after

@@ -176,7 +176,7 @@ module _ {O : Type 0} (r : Running O) (n : ℕ) (s u : Seated) (before : DrivePe
     ];
   }
 
--- so many attempts were made, of which there may be none, and in each a refusal was met
+-- n attempts were made, where n may be 0, and in each a refusal was met
 pub record DrivesOn {O : Type 0} (r : Running O) (n : ℕ) (s u : Seated) : Type 0 where
   pub caller : IsLinkedOf r u
   pub attempts : ((n ≡ 0) × (u ≡ s)) ⊎ DrivePending r n s u
@@ -235,7 +235,7 @@ again_halted r s u v again h = halted_on r again.attempts s u again.on v h
 abbrev pub unchanged_by_look : Seated → Seated
 unchanged_by_look s = (let b = unchanged_by_lookup s in record b { known = record b.known { times = record b.known.times { images = [] }; images = [] } })
 
--- such an attempt keeps the lists, and its caller may go on
+-- an attempt that changes only what a read or the taking of an image changes keeps the lists, and its caller may go on
 module _ {O : Type 0} (r : Running O) (s v : Seated) (caller : IsCallerOf r s) (rest : unchanged_by_look v ≡ unchanged_by_look s) (front : s.known.local.front ≤ v.known.local.front) (of : IsSeatOf r v) (rises : s.known.local.seen_cur ≤ v.known.local.seen_cur) (since : StepsOn s v) where
   pub look_keeps : s.known.local.met ≤ v.known.local.met → ReadKeeps s v
   look_keeps met = record {
@@ -258,7 +258,7 @@ module _ {O : Type 0} (r : Running O) (s v : Seated) (caller : IsCallerOf r s) (
       between_after r 0 0 s v caller (ap (λ (x : Seated). x.known.local.own) rest) (ap (λ (x : Seated). map except_set x.known.local.cells) rest) front of at
       (ap (λ (x : Seated). length x.known.local.answered + 0) rest)
 
--- what attempts for a read keep of a caller that answer nothing
+-- what attempts for a read leave of a caller, whether they answer the read or not
 module _ {O : Type 0} (r : Running O) (op : List ℕ) (s v : Seated) (caller : IsCallerOf r s) (rest : unchanged_by_lookup v ≡ unchanged_by_lookup s) (front : s.known.local.front ≤ v.known.local.front) (of : IsSeatOf r v) (rises : s.known.local.seen_cur ≤ v.known.local.seen_cur) (on : StepsOn s v) where
   look_rest : unchanged_by_look v ≡ unchanged_by_look s
   look_rest = ap (λ (x : Seated). (let y : Seated = record x { known = record x.known { times = record x.known.times { images = [] }; images = [] } } in y)) rest
@@ -353,7 +353,7 @@ module _ {O : Type 0} (r : Running O) (op : List ℕ) (n : ℕ) (s u : Seated) (
     images = h.images ∙ before.images;
   }
 
--- so many attempts for a read were made, of which there may be none, and in each a refusal was met
+-- n attempts for a read were made, where n may be 0, and in each a refusal was met
 pub record LooksOn {O : Type 0} (r : Running O) (n : ℕ) (s u : Seated) : Type 0 where
   pub caller : IsCallerOf r u
   pub attempts : ((n ≡ 0) × (u ≡ s)) ⊎ ReadPending r n s u

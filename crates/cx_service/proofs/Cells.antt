@@ -30,7 +30,7 @@ own_kept l m cells own front tickets = record {
   to = λ i x there. (let below = cells.to i x (ap (λ (xs : List Linked). slice_get xs i) (sym own) ∙ there) in omega (arith, below, front));
 }
 
--- and of one with an entry more, in a cell
+-- a caller's cells stay those of its own entries in a local state `m` with one entry more than `l`, which is in the cell `c`
 pub own_more : (l m : Local) (y : Linked) (c : ℕ) → HasOwnCells l → m.own ≡ l.own ++ y ∷ [] → l.front ≤ y.ticket → m.front ≡ y.ticket + 1 →
     ((j t : ℕ) → j ≢ c → (cell_of m j).ticket ≡ Some t → (cell_of l j).ticket ≡ Some t) → (cell_of m c).ticket ≡ Some y.ticket → HasOwnCells m
 own_more l m y c cells own from front others here = record { own = has; apart = apart; to = to }

@@ -53,7 +53,7 @@ module _ {O : Type 0} (r : Running O) (s v : Seated) (kept : unchanged_by_submit
     images = ap (λ (x : Seated). images_of x.known) kept;
   }
 
-  -- it is still the seat of its caller
+  -- where only what a submit changes differs at `v` from `s`, `v` is a seat of the table as `s` is
   pub of_kept : IsSeatOf r s → IsSeatOf r v
   of_kept of = record {
     table = ap (λ (x : Seated). x.table) kept ∙ of.table;
@@ -62,7 +62,7 @@ module _ {O : Type 0} (r : Running O) (s v : Seated) (kept : unchanged_by_submit
     region = ap (λ (x : Seated). x.region) kept ∙ of.region;
   }
 
-  -- and its caller is in no call
+  -- a caller that is in no call at `s` is in none at `v`, with `unanswered` own entries that are not answered
   pub between : (unanswered : ℕ) → IsCallerOf r s → v.known.local.fresh ≡ false → v.known.local.scan ≡ None → length v.known.local.own ≡ length s.known.local.own + unanswered → s.known.local.front ≤ v.known.local.front →
       HasOwnCells v.known.local → IsBetweenCalls unanswered r v
   between unanswered caller fresh scan count front cells = record {
@@ -168,7 +168,7 @@ module _ {O : Type 0} (r : Running O) (j : ℕ) (op : List ℕ) (s t : Seated) (
   same_scans : t.known.local.scans ≡ s.known.local.scans
   same_scans = ap (λ (x : Seated). x.known.local.scans) rest
 
-  -- and nothing is looked for then
+  -- where a cell is idle, nothing is looked for
   not_looked : (v : Seated) → v.known.local.seen_free ≡ t.known.local.seen_free → v.known.local.scans ≡ t.known.local.scans → (k : ℕ) → k < 16 → IsIdle s.known.local k → LooksForNothing s v
   not_looked v free scans k within idle = record { free = free ∙ ap (λ (x : Seated). x.known.local.seen_free) rest; scans = scans ∙ same_scans }
 

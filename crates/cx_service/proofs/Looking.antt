@@ -72,7 +72,7 @@ module _ (most : ℕ) (s t : Seated) (looked : LooksForCell most s t) where
   pub looked_front : t.known.local.front ≡ s.known.local.front
   looked_front = ap (λ (x : Seated). x.known.local.front) looked.same
 
-  -- looking for a cell leaves what was seen of CUR
+  -- looking for a cell does not take back what was seen of CUR
   pub looked_cur : s.known.local.seen_cur ≤ t.known.local.seen_cur
   looked_cur = (let e = ap (λ (x : Seated). x.known.local.seen_cur) looked.same in omega (arith, e))
 
@@ -87,7 +87,7 @@ looks_on callers n s t v same looked = elim looked [
 ]
 
 module _ {O : Type 0} (r : Running O) (more : ℕ) (s t : Seated) (first : Precedes more s t) where
-  -- its caller is in no call
+  -- a caller that was in no call before it looked for a cell is in none after
   pub caller_then : IsCallerOf r s → t.known.local.fresh ≡ false → t.known.local.scan ≡ None → IsCallerOf r t
   caller_then caller fresh scan =
       between r s t first.kept 0 caller fresh scan
@@ -222,7 +222,7 @@ module _ {O : Type 0} (r : Running O) (more : ℕ) (s t : Seated) (first : Prece
   enters_then op k took tries m n v TriedAgain most least after = (again_then tries m n v most after.0, tries_then k took (LosesTries r.callers tries) v least after.1)
   enters_then op k took tries m n v TriedWorn most least after = worn_then took (k + 1) (took + k + 1) m n v most (omega arith) least after
 
-  -- and so is what one in an idle cell does that was found by so many steps
+  -- whatever a submit in the idle cell found at `t` ends with, one from `s` on ends with it, the steps from `s` to `t` counted in
   pub submits_then : (op : List ℕ) (tries m n : ℕ) (result : Submitted) → m + more ≤ n → (cell : ℕ) → FindsIdle r.callers s t cell → EntersOperation m r op tries t result → SubmitsIn n r op tries s result
   submits_then op tries m n (LinkedIs v) most cell finds after = linked_then op m n v most after
   submits_then op tries m n (Again v) most cell finds after = (
@@ -264,7 +264,7 @@ cur_loaded instance s t found made rises allowed =
       stood = λ at. absurd (allowed at);
     }
 
--- and its caller is in no call then
+-- a caller that was in no call before CUR was loaded is in none after, where what was loaded is not kept as fresh
 pub cur_caller : {O : Type 0} (r : Running O) (instance : Instance) (s t : Seated) (found : ℕ) → t ≡ stepped instance LoadCur s found → s.known.local.seen_cur ≤ found → ¬ IsAtLimit s.known.local → IsCallerOf r s → IsCallerOf r (stale t)
 cur_caller r instance s t found made rises allowed caller = caller_then r 1 s (stale t) (cur_loaded instance s t found made rises allowed) caller refl (ap (λ (x : Seated). x.known.local.scan) made ∙ caller.rest.scan)
 
@@ -277,7 +277,7 @@ free_loaded instance s t found made =
       steps = omega (arith, steps);
     }
 
--- and no scan is under way, as before
+-- after FREE was loaded no scan is under way, as before
 pub free_ends : {O : Type 0} (r : Running O) (instance : Instance) (s t : Seated) (found : ℕ) → t ≡ stepped instance LoadFree s found → IsCallerOf r s → EndsLooking s t
 free_ends r instance s t found made caller = record {
   scan = ap (λ (x : Seated). x.known.local.scan) made ∙ caller.rest.scan;
@@ -329,7 +329,7 @@ looking_then n m s t v more scans one looking = elim looking [
   | inr ended ↦ (let count = ended.1 in inr (ended.0 ∙ ap one_more scans, omega (arith, more, one, count)))
 ]
 
--- and in a scan
+-- the limit was come to while FREE was being raised, by a scan of the callers' needs
 pub collect_halts : (callers target : ℕ) (s v : Seated) → AreInUse s.known.local → HaltsCollecting callers target s v → IsLooking (callers + 2) s v
 collect_halts callers target s v used halts = elim halts.left [
   | inl some ↦ inl (elim some [
@@ -339,7 +339,7 @@ collect_halts callers target s v used halts = elim halts.left [
   | inr opens ↦ (let count = opens.count in inr (opens.scans, omega (arith, count)))
 ]
 
--- which takes no step back
+-- raising FREE takes no step back where the limit ends it
 pub collect_on : (callers target : ℕ) (s v : Seated) → HaltsCollecting callers target s v → StepsOn s v
 collect_on callers target s v halts = elim halts.left [
   | inl some ↦ elim some [

@@ -78,7 +78,7 @@ module _ {O : Type 0} (r : Running O) (op : List ℕ) (before after : Seated) wh
   answered_read_seen seen read = record { front = read.reached; read = inl (let at = read.place in omega (arith, at)) }
 
 module _ {O : Type 0} (o : Ghosts O) (r : Running O) (words : List ℕ) (at : ℕ) (before after : Seated) (taken : CheckpointTaken o r words at before after) where
-  -- so is an image
+  -- an image is taken at a place at or above each that its caller had seen
   pub image_behind : (place : ℕ) → HasSeen r.callers place before.known.local → (place ≤ at) × HasSeen r.callers place after.known.local
   image_behind place was =
       let caller = taken.caller.of.caller in
@@ -123,7 +123,7 @@ lists_seen r place before after caller was keeps = still_seen r place before aft
 pub catch_up_seen : {O : Type 0} (r : Running O) (place : ℕ) (before after : Seated) → IsCallerOf r before → HasSeen r.callers place before.known.local → CatchUpKeeps before after → HasSeen r.callers place after.known.local
 catch_up_seen r place before after caller was keeps = still_seen r place before after caller was keeps.front keeps.cur keeps.answered
 
--- whatever an update answers, its caller has seen still what it had seen
+-- unless its limit stopped it, a caller has seen after an update what it had seen before, and an update that is done stands at or above that
 pub update_sees : {O : Type 0} (r : Running O) (op reply : List ℕ) (place : ℕ) (before : Seated) (updated : Updated) → IsCallerOf r before → HasSeen r.callers place before.known.local → Updates r op reply before updated →
     UpdateSees r.callers place updated
 update_sees r op reply place before (UpdatedDone after ticket) caller was done = update_behind r op before after place (answer_with ticket reply) was done
@@ -136,7 +136,7 @@ pub queued_sees : {O : Type 0} (r : Running O) (op reply : List ℕ) (place : �
 queued_sees r op reply place before updated caller was queues =
     update_sees r op reply place queues.refused updated queues.pending.caller (still_seen r place before queues.refused caller was queues.pending.keeps.front queues.pending.keeps.cur queues.pending.keeps.answered) queues.entered
 
--- whatever a read answers, its caller has seen still what it had seen
+-- unless its limit stopped it, a caller has seen after a read what it had seen before, and a read that is answered stands at or above that
 pub read_sees : {O : Type 0} (r : Running O) (op reply : List ℕ) (place : ℕ) (before : Seated) (done : ReadDone) → IsCallerOf r before → HasSeen r.callers place before.known.local → ReadOutcome r op reply before done →
     ReadSees r.callers place done
 read_sees r op reply place before (Read after at) caller was read = read_behind r op before after place (seen_with at reply) was read.0
@@ -145,7 +145,7 @@ read_sees r op reply place before (FullRead after note) caller was queues = queu
 read_sees r op reply place before (WornRead after) caller was queues = queued_sees r op reply place before (UpdatedWorn after) caller was queues
 read_sees r op reply place before (HaltedRead after) caller was stops = tt
 
--- whatever catching up answers, its caller has seen still what it had seen
+-- unless its limit stopped it, a caller has seen after it caught up what it had seen before
 pub catch_up_sees : {O : Type 0} (r : Running O) (other place : ℕ) (before : Seated) (caught : CaughtUp) → IsCallerOf r before → HasSeen r.callers place before.known.local → CatchesUp r other before caught →
     CatchUpSees r.callers place caught
 catch_up_sees r other place before (Caught after) caller was caught = catch_up_seen r place before after caller was caught.keeps
@@ -156,7 +156,7 @@ catch_up_sees r other place before (Halted after) caller was halted = tt
 own_unanswered : (own : List Linked) (n ticket : ℕ) → option_map (λ (x : Linked). x.ticket) (slice_get own n) ≡ Some ticket → (x : Linked) × (slice_get own n ≡ Some x) × (x.ticket ≡ ticket)
 own_unanswered own n ticket is = (let m = mapped (λ (x : Linked). x.ticket) (slice_get own n) ticket is in (m.0, m.1, m.2))
 
--- so is one that was driven to its answer
+-- the ticket of an entry that was driven to its answer is below the front
 pub driven_front : {O : Type 0} (r : Running O) (before after : Seated) (answer : Answer) → DriveDone r before after answer → answer.ticket < after.known.local.front
 driven_front r before after answer done =
     let x = own_unanswered before.known.local.own (length before.known.local.answered) answer.ticket done.ticket in
@@ -183,7 +183,7 @@ module _ {O : Type 0} (r : Running O) (step : O → List ℕ → List ℕ → Li
   mid_answered : mid.known.local.answered ≡ s.known.local.answered
   mid_answered = ap (λ (x : Seated). x.known.local.answered) loaded
 
-  -- it answers nothing, since each entry of the caller is answered
+  -- a raise answers nothing, since each entry of the caller is answered
   pub tells_nothing : (lines : ℕ) (lawful : List ℕ → Type 0) (place : ℕ) → TellsAnswers lines lawful r.base (step r.object) mid.known place []
   tells_nothing lines lawful place =
       let own = ap (λ (xs : List Linked). length xs) mid_own in

@@ -157,7 +157,7 @@ module _ {O : Type 0} (r : Running O) (op : List ℕ) (s u : Seated) (same : Kee
       });
     }
 
-    -- what it comes to that the linked entry is driven to its end
+    -- what driving the linked entry to its end leaves is what the update leaves
     pub finished : (reply : List ℕ) (d : Updated) → u.known.sets ≡ s.known.sets → s.known.local.front ≤ u.known.local.front → FinishOutcome r reply l d → Updates r op reply s d
     finished reply (UpdateIs v ticket) still rise done = update_done v (answer_with ticket reply) still rise done
     finished reply (FullUpdate v note) still rise none = absurd none

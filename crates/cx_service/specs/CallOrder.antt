@@ -31,7 +31,8 @@ abbrev pub IsOperationEnd : Seated → Operation → ℕ → Type 0
 IsOperationEnd seat (Update caller i) m = (seat.known.local.number ≡ caller) × (slice_get seat.known.times.answered i ≡ Some m)
 IsOperationEnd seat (Read caller i) m = (seat.known.local.number ≡ caller) × (x : ℕ × ℕ) × (slice_get seat.known.times.reads i ≡ Some x) × (x.1 ≡ m)
 
--- and that it had not begun when the caller had made n steps: the update was not linked, or CUR not loaded for the read
+-- the seat of an operation's caller says that the operation had not begun when the caller had made n steps: the update was not linked, or CUR not
+-- loaded for the read
 abbrev pub IsBeginningOf : Seated → Operation → ℕ → Type 0
 IsBeginningOf seat (Update caller i) n = (seat.known.local.number ≡ caller) × (slice_get seat.known.times.linked i ≡ Some n)
 IsBeginningOf seat (Read caller i) n = (seat.known.local.number ≡ caller) × (x : ℕ × ℕ) × (slice_get seat.known.times.reads i ≡ Some x) × (x.0 ≡ n)

@@ -82,7 +82,7 @@ pub record CatchUpHalted {O : Type 0} (r : Running O) (before : Seated) (after :
   pub keeps : CatchUpKeeps before after.seat
   pub due : IsCatchingUp before after.seat
 
--- what catching up with a place leaves: the caller has caught up, CUR was found below the place, or the limit came before
+-- what catching up with a place leaves: the caller has caught up, the place found in CUR is below it, or the limit came before
 abbrev pub CatchesUp : {O : Type 0} → Running O → ℕ → Seated → CaughtUp → Type 0
 CatchesUp r place before (Caught after) = CatchUpCaught r place before after
 CatchesUp r place before (Behind after found) = CatchUpBehind r place found before after

@@ -18,7 +18,7 @@ use Rattle.strong_trylock.specs.Held.{all_rights, no_rights}
 abbrev pub MeetsMore : ℕ → Seated → Seated → Type 0
 MeetsMore tries before after = (before.known.local.met + tries ≤ after.known.local.met) ⊎ (max_word ≤ after.known.local.met)
 
--- and at most this many
+-- at most this many refusals were met
 abbrev pub MeetsAtMost : ℕ → Seated → Seated → Type 0
 MeetsAtMost most before after = after.known.local.met ≤ before.known.local.met + most
 

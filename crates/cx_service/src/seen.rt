@@ -19,36 +19,37 @@ ghost use Rattle.cx_attempts.specs.declared.lookup.Seen.{Seen};
 
 use cx_base::Object;
 
-/// Its update is answered at a ticket at or above the place, and it has seen the place still.
+/// The law that the update of a caller which has seen a place is answered at a ticket at or above it, and that the caller has seen the place still.
 pub fn updates_stand_behind_what_was_seen<O: Object>()
     ensures { (r : Running O) (op : List ℕ) (place : ℕ) (before after : Seated) (answer : Answer) → HasSeen r.callers place before.known.local → UpdateDone r op before after answer →
         (place ≤ answer.ticket) × HasSeen r.callers place after.known.local }
 {}
 
-/// Its read is answered at a place at or above it, and it has seen the place still.
+/// The law that the read of a caller which has seen a place is answered at that place or above it, and that the caller has seen the place still.
 pub fn reads_stand_behind_what_was_seen<O: Object>()
     ensures { (r : Running O) (op : List ℕ) (place : ℕ) (before after : Seated) (seen : Seen) → HasSeen r.callers place before.known.local → ReadAnswered r op before after seen →
         (place ≤ seen.place) × HasSeen r.callers place after.known.local }
 {}
 
-/// An image that it takes is at a place at or above it, and it has seen both places then.
+/// The law that an image taken by a caller which has seen a place is at that place or above it, and that the caller has seen both places then.
 pub fn checkpoints_stand_behind_what_was_seen<O: Object>()
     ensures behind { (r : Running O) (words : List ℕ) (place at : ℕ) (before after : Seated) → HasSeen r.callers place before.known.local → CheckpointTaken O.Object r words at before after →
         (place ≤ at) × HasSeen r.callers place after.known.local }
     ensures seen { (r : Running O) (words : List ℕ) (at : ℕ) (before after : Seated) → CheckpointTaken O.Object r words at before after → HasSeen r.callers at after.known.local }
 {}
 
-/// What a caller was answered it has seen: its update, and so each place up to the one behind the ticket.
+/// A caller whose update was answered has seen each place up to the one behind the update's ticket.
 pub fn answered_updates_are_seen<O: Object>()
     ensures { (r : Running O) (op : List ℕ) (before after : Seated) (answer : Answer) → UpdateDone r op before after answer → HasSeen r.callers (answer.ticket + 1) after.known.local }
 {}
 
-/// What it read it has seen: the read's place.
+/// A caller whose read was answered has seen the read's place.
 pub fn answered_reads_are_seen<O: Object>()
     ensures { (r : Running O) (op : List ℕ) (before after : Seated) (seen : Seen) → ReadAnswered r op before after seen → HasSeen r.callers seen.place after.known.local }
 {}
 
-/// Whatever a submit answers, what was seen before has been seen still, and an entry that it linked has a ticket at or above it.
+/// Whatever a submit answers, its caller has seen still what it had seen before, and an entry that the submit linked has a ticket at or above each
+/// place that the caller had seen.
 pub fn submits_stand_behind_what_was_seen<O: Object>()
     ensures linked { (r : Running O) (op : List ℕ) (most place : ℕ) (before after : Seated) → HasSeen r.callers place before.known.local → (links : SubmitLinked r op most before after) → place ≤ links.ticket }
     ensures seen { (r : Running O) (most place : ℕ) (before after : Seated) → IsCallerOf r before → HasSeen r.callers place before.known.local → SubmitKeeps most before after → HasSeen r.callers place after.known.local }
@@ -59,22 +60,24 @@ pub fn reads_keep_what_was_seen<O: Object>()
     ensures { (r : Running O) (place : ℕ) (before after : Seated) → IsCallerOf r before → HasSeen r.callers place before.known.local → ReadKeeps before after → HasSeen r.callers place after.known.local }
 {}
 
-/// Once an entry is answered that was linked at or above a place, its caller has seen the place.
+/// Once an entry is answered, its caller has seen each place up to the one behind the entry's ticket.
 pub fn driven_entries_are_seen<O: Object>()
     ensures { (r : Running O) (place : ℕ) (before after : Seated) (answer : Answer) → place ≤ answer.ticket + 1 → DriveDone r before after answer → HasSeen r.callers place after.known.local }
 {}
 
-/// Whatever an update returns, it stands at or above a place that its caller had seen, and the caller has seen the place still, unless it is stopped.
+/// An update that is answered stands at or above each place that its caller had seen. Whatever an update returns, the caller has seen each of these
+/// places still, unless the caller is stopped.
 pub fn updates_keep_what_was_seen<O: Object>()
     ensures { (r : Running O) (op reply : List ℕ) (place : ℕ) (before : Seated) (updated : Updated) → IsCallerOf r before → HasSeen r.callers place before.known.local → Updates r op reply before updated → UpdateSees r.callers place updated }
 {}
 
-/// A read, which may have entered the queue, leaves its caller with what it had seen before.
+/// A read that is answered, beside the queue or as an entry of it, stands at or above each place that its caller had seen. Whatever a read returns,
+/// the caller has seen each of these places still, unless the caller is stopped.
 pub fn queued_reads_keep_what_was_seen<O: Object>()
     ensures { (r : Running O) (op reply : List ℕ) (place : ℕ) (before : Seated) (done : ReadDone) → IsCallerOf r before → HasSeen r.callers place before.known.local → ReadOutcome r op reply before done → ReadSees r.callers place done }
 {}
 
-/// Catching up with another place, which may be a lower one, leaves what was seen before.
+/// Catching up with another place, which may be a lower one, leaves its caller with what it had seen before, unless the caller is stopped.
 pub fn catch_ups_keep_what_was_seen<O: Object>()
     ensures { (r : Running O) (other place : ℕ) (before : Seated) (caught : CaughtUp) → IsCallerOf r before → HasSeen r.callers place before.known.local → CatchesUp r other before caught → CatchUpSees r.callers place caught }
 {}

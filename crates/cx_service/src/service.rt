@@ -7,11 +7,12 @@ use cx_base::Object;
 use cx_table::Shared;
 use std::marker::Model;
 
-/// An object that 1 to 8 callers share. Contracts see which table it is, its number of callers, the lines of the object, the
-/// base from which it opened, and the object.
+/// An object that 1 to 8 callers share. Contracts see the service as its table: which table that is, its number of callers, the lines of the object,
+/// the base from which the table opened, and the object.
 #[derive(Drop)]
 pub struct Service<O: Object> {
     pub(crate) shared: Shared<O>,
+    /// The place of the base from which the service opened.
     pub(crate) place: u64,
 }
 
@@ -36,7 +37,7 @@ impl<O: Object> Service<O> {
         self.shared.lines()
     }
 
-    /// The place of the base from which it opened.
+    /// The place of the base from which the service opened.
     pub fn place(&self) -> u64
         ensures { result ≡ self.now.base.place }
     {

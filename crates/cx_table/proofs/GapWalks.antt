@@ -10,7 +10,7 @@ use Rattle.table_invariant.specs.Listed.{HasGap}
 use Rattle.cx_table.specs.GapMarks.{AreMarked, IsMarked, MarksChanged, MarksTicket}
 use Rattle.cx_table.specs.GapWords.{IsNamed, TellsLines, lines_from, start_at}
 
--- where the words of a slot tell n more gaps from word k on, these lead from the start of the gap of word k to the end of the region
+-- where the words of a slot tell n more gaps and the last one from word k on, these lead from the start of the gap of word k to the end of the region
 lines_walk_from : (callers slot ticket lines : ℕ) (words : List ℕ) (n k m : ℕ) → k + n ≡ m → TellsLines callers slot ticket lines words m →
     Walk (IsNamed callers slot words) ticket (start_at words k) (lines_from k n words) lines
 lines_walk_from callers slot ticket lines words zero k m is tells =
@@ -41,7 +41,7 @@ named_by words from (suc n) x (suc i, below, is) =
     let e : from + (later.0 + 1) ≡ from + 1 + later.0 = omega arith in
     (later.0 + 1, omega (arith, later.1), ap (λ j. slice_index words j % 2 ^ 17) e ∙ later.2)
 
--- so the lines are marked that the words name
+-- where the piece of the line that each of n words names is marked, the lines that these words name are marked
 pub marked_lines : (marks : List Bool) (words : List ℕ) (n : ℕ) → n ≤ length words → ((k : ℕ) → k < length (take n words) → IsMarked marks ((slice_index (take n words) k % 2 ^ 17 + 7) / 8)) → n ≡ length (take n words) → AreMarked marks (lines_from 0 n words)
 marked_lines marks words n within marked long x has =
     let by = named_by words 0 n x has in
@@ -56,21 +56,22 @@ changed_none instance lines from marks known = record {
   marked = λ t least below. absurd (omega (arith, least, below));
 }
 
--- lists by ticket, with this list for one ticket
+-- lists by ticket, where the ticket `to` has `list` and each other ticket has the list that `lists` gives
 with_list : (ℕ → List ℕ) → ℕ → List ℕ → ℕ → List ℕ
 with_list lists to list t = if t == to then list else lists t
 
--- that ticket has the list given
+-- in `with_list` the ticket `to` has `list`
 at_last : (lists : ℕ → List ℕ) (to : ℕ) (list : List ℕ) (t : ℕ) → t ≡ to → with_list lists to list t ≡ list
 unfolding with_list
 at_last lists to list t is = ap (λ b. if b then list else lists t) (eq-eqb t to is)
 
--- each other ticket has the list that it had
+-- in `with_list` each other ticket has the list that `lists` gives
 at_others : (lists : ℕ → List ℕ) (to : ℕ) (list : List ℕ) (t : ℕ) → t ≢ to → with_list lists to list t ≡ lists t
 unfolding with_list
 at_others lists to list t apart = ap (λ b. if b then list else lists t) (ne_eqb t to apart)
 
--- and then one more
+-- Where the lines that the entries between two places changed are marked, and then those that the next ticket's entry changed, the lines that the
+-- entries up to that ticket changed are marked.
 pub changed_more : (instance : Instance) (lines from to : ℕ) (marks marks' : List Bool) (known known' : Known) → ((g : Gap) → HasGap instance known g → HasGap instance known' g) → ((piece : ℕ) → IsMarked marks piece → IsMarked marks' piece) →
     MarksChanged instance lines from to marks known → MarksTicket instance lines to marks' known' → MarksChanged instance lines from (to + 1) marks' known'
 changed_more instance lines from to marks marks' known known' keeps kept was one =

@@ -21,7 +21,7 @@ shown_found instance (LoadWord r i true) l found by = absurd by
 shown_found instance (LoadWord r i false) l found by = refl
 shown_found instance kind l found by = refl
 
--- and its guard is seen whole
+-- the guard of a kind that is shown holds where the caller sees it hold
 guard_seen : (instance : Instance) (kind : Kind) (l : Local) → IsByShown kind → SeenGuard instance kind l → Guard instance unseen kind l
 guard_seen instance (Downgrade r) l by guard = absurd by
 guard_seen instance (ReleaseExclusive r) l by guard = absurd by
@@ -31,7 +31,7 @@ guard_seen instance (Offer j) l by guard = absurd by
 guard_seen instance (NoteGap s i v) l by guard = absurd by
 guard_seen instance kind l by guard = guard
 
--- so it is learned
+-- what a step of a kind that is shown teaches is learned
 pub learns_made : (instance : Instance) (kind : Kind) (known : Known) (word : ℕ) (put : ℕ → ℕ) → IsByShown kind → WordFits kind → SeenGuard instance kind known.local → word ≡ step_word instance kind known.local → Puts instance kind known.local put →
     MayStepKnowing instance kind known word put
 learns_made instance kind known word put by fits guard at puts words within =
@@ -39,7 +39,7 @@ learns_made instance kind known word put by fits guard at puts words within =
     subst (λ (k : Kind). LearnsInAnyState instance words k known word (put found) (known_after instance k known found)) (sym (shown_found instance kind known.local found by))
     (learns_shown instance kind known words word (put found) by fits (guard_seen instance kind known.local by guard) at (sym (puts found)))
 
--- and what its step leaves is what the step of its kind leaves
+-- what a step of a kind that is shown leaves, by the word that it found, is what the step of the kind leaves
 pub made_shown : {O E : Type 0} (o : Ghosts O) (r : Running O) (kind : Kind) (before after : Seated) (result : Result ℕ E) → IsByShown kind →
     MakesFittingStep o r before after result (λ found. Steps r o.step o.only_reads (kind_found (instance_at r o.step o.only_reads) kind before.known.local found) found before after) →
     MakesFittingStep o r before after result (λ found. Steps r o.step o.only_reads kind found before after)

@@ -42,14 +42,14 @@ pub shown_cell : (callers : ℕ) (seen : Option SeenSlot) (ticket cell : ℕ) �
 shown_cell callers None ticket cell some shows = absurd shows
 shown_cell callers (Some seen) ticket cell some shows = subst (λ n. n < 16 * callers) shows.3 (mod_below (seen.word - 1) (16 * callers) (omega arith))
 
--- so its words lie within the table
+-- the words of a cell that is shown with a ticket lie within the table
 pub shown_within : (callers region i : ℕ) (seen : Option SeenSlot) (ticket cell : ℕ) → 1 ≤ callers → i < 145 → ShowsTicket callers seen ticket cell → cell_at callers cell i < word_count callers region
 shown_within callers region i None ticket cell some below shows = absurd shows
 shown_within callers region i (Some seen) ticket cell some below shows =
     let k = shown_cell callers (Some seen) ticket cell some shows in
     omega arith
 
--- and so do those of its set
+-- the words of a cell's write set lie within the table
 pub set_within : (callers region cell i : ℕ) → i < 513 → cell < 16 * callers → set_at callers cell i < word_count callers region
 set_within callers region cell i below small = omega arith
 

@@ -55,7 +55,7 @@ taken_fits line_count lawful step reads r kind image known found me' running law
     subst (Fitting r.lines (lawful r.object) r.base (step r.object)) (sym (ap (λ (m : Me ℕ (List Known)). known_of m.0) taught.knows))
     (fitting r.lines (lawful r.object) (instance_at r step reads) laws running.base (known_taken (instance_at r step reads) kind image known found) taught.behind)
 
--- and the words taken are a lawful base
+-- the words of an image that was taken are a lawful base
 pub taken_base : {O : Type 0} (line_count : O → ℕ) (lawful : O → List ℕ → Type 0) (step : O → List ℕ → List ℕ → List ℕ × List ℕ) (reads : O → List ℕ → Bool) (r : Running O) (kind : Kind) (image : List ℕ) (known : Known) (found : ℕ) (me' : Me ℕ (List Known)) →
     IsTableWithinLimits line_count lawful r → ObjectLaws r.lines (lawful r.object) (step r.object) → TeachesImage (instance_at r step reads) kind image known found me' → LawfulBase r.lines (lawful r.object) (base_of image)
 taken_base line_count lawful step reads r kind image known found me' running laws taught = image_base r.lines (lawful r.object) (instance_at r step reads) laws running.base image taught.of_some

@@ -27,12 +27,12 @@ pub record IsOnWord {O : Type 0} (r : Running O) (word : ℕ) (table : TableId) 
   pub one : me ≡ (known_of me.0 ∷ [], [])
   pub within : word < r.table.words
 
--- a call left the seat of the table that it was of, and this holds then, which the seat learned
+-- a call left the seat on the table that it was of, and taught the seat this
 pub record KeepsTableKnowing (before after : TableId) (lesson : Type 0) : Type 0 where
   pub table : after ≡ before
   pub taught : lesson
 
--- a call that loads into words left the seat of the table that it was of, this holds then, which the seat learned, and the words are as many as before
+-- a call that loads into words left the seat on the table that it was of, taught the seat this, and left as many words as before
 pub record FillsKnowing (before after : TableId) (old new : List ℕ) (lesson : Type 0) : Type 0 where
   pub table : after ≡ before
   pub taught : lesson

@@ -20,7 +20,7 @@ use Rattle.cx_table.specs.FoundWords.{KnownOfLink, KnownOfLook}
 use Rattle.mutation_queue.specs.Leaves.{KeepsSeatPart, seat_number}
 use Rattle.mutation_queue.specs.Links.{FindsLink, FindsOpen, LinksAt, LinksNone, LinksPast, MayLink, WinsTry, except_front, except_linked, with_front, with_loss, with_win}
 
--- a raised front, by the word found
+-- the front stays after a link word of 0 was found
 raised_zero : (callers front found : ℕ) → found ≡ 0 → raised_front callers front found ≡ front
 raised_zero callers front found zero = ap (λ b. cond b front (max front (link_ticket_of callers found + 1))) (eq-eqb found 0 zero)
 
@@ -200,7 +200,7 @@ finds_open instance s t found allowed is shows = record {
   shows = subst (λ (x : Seated). ShowsOpen instance.callers x.known.local.seen_slot x.known.local.front) (sym is) shows;
 }
 
--- so does a look that found no link from the front on
+-- a look that found no link from the front on found the front's slot open
 pub open_seen : (instance : Instance) (s t : Seated) (seen : ℕ) → SeesOpen instance s t seen → FindsOpen instance.callers s t
 open_seen instance s t seen is = finds_open instance s t seen is.allowed is.looked (shows_open instance s.known.local seen is.some is.found_word is.below)
 

@@ -22,7 +22,7 @@ put_next (w ∷ ws) [] n below same = absurd (omega arith)
 put_next (w ∷ ws) (o ∷ os) zero below same = refl
 put_next (w ∷ ws) (o ∷ os) (suc n) below same = ap (λ xs. w ∷ xs) (put_next ws os n (omega arith) (omega arith))
 
--- where word n of two lists is equal, the first n words of the one before the rest of the other are as well its first n + 1
+-- Words are copied one after another over an old list. Where word n is equal in both lists, the list with n words copied is as well that with n + 1.
 keep_next : (ws old : List ℕ) (n : ℕ) → n < length ws → length old ≡ length ws → get_or old n 0 ≡ get_or ws n 0 → take n ws ++ drop n old ≡ take (suc n) ws ++ drop (suc n) old
 keep_next [] old n below long same = absurd (omega arith)
 keep_next (w ∷ ws) [] n below long same = absurd (omega arith)

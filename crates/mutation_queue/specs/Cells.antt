@@ -12,7 +12,7 @@ abbrev pub IsInUseAt : ℕ → Option ℕ → Type 0
 IsInUseAt free None = ⊥
 IsInUseAt free (Some ticket) = free ≤ ticket
 
--- a caller's cell is in use, as far as the caller has seen FREE: it holds a ticket at or above it
+-- a caller's cell is in use, as far as the caller knows: the cell has a ticket at or above what the caller last saw in FREE
 abbrev pub IsInUse : Local → ℕ → Type 0
 IsInUse l j = IsInUseAt l.seen_free (cell_of l j).ticket
 

@@ -77,7 +77,7 @@ module _ {O : Type 0} (r : Running O) (step : O → List ℕ → List ℕ → Li
   most_by true = omega arith
   most_by false = not_above before.known.local.met before.known.local.fresh
 
-  -- and at most one is met
+  -- at most one refusal is met
   exchange_most : after.known.local.met ≤ before.known.local.met + 1
   exchange_most = subst (λ (t : Seated). t.known.local.met ≤ before.known.local.met + 1) (sym s.made) (most_by (found == before.known.local.seen_cur))
 

@@ -24,7 +24,7 @@ no_fault version lawful old image Memory ok is = refl
 
 module _ (lines : ℕ) (lawful : List ℕ → Type 0) (version : ℕ) (shape : (words : List ℕ) → lawful words → Words (8 * lines) words × (slice_index words 0 ≡ version))
     (old : OldFormat) (takes : TakesOver lines version lawful old) (image : Image) (size : HasSize image) (base : LawfulBase lines lawful (named_base image)) where
-  -- its object part is of the object's own version
+  -- the object part of an image that is accepted is of the object's own version
   own : version_of (region_of image) ≡ version
   own = (shape (object_part (region_of image)) base.object).1
 

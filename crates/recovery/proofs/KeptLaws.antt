@@ -56,7 +56,7 @@ module _ (lines : ℕ) (lawful : List ℕ → Type 0) (version : ℕ) (instance 
   abbrev region : ℕ
   region = length instance.base.words
 
-  -- it has the words of all replicas
+  -- what a crash leaves of a lawful state has the words of all replicas
   count_is : image.count ≡ region * (2 * instance.callers)
   count_is = sym (length-map-range_with_len (image_word image.pairs) 0 image.count) ∙ left.crash.long
 

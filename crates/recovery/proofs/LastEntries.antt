@@ -112,7 +112,7 @@ module _ (lines : ℕ) (lawful : List ℕ → Type 0) (instance : Instance) (law
     is = (kept_at ticket entry linked).reply;
   }
 
-  -- a caller's result that stays is after it, as before, the result of the first base or a reply of the object's step
+  -- where a caller's result stays from `before` to `after`, it is in `after`, as in `before`, that of the first base or a reply of the object's step
   stays_from : (caller : ℕ) (before after : List ℕ) → IsEarlierResult before after caller
       → IsEarlierResult instance.base.words before caller ⊎ IsStepsReply lawful instance.step (slot_reply caller before)
       → IsEarlierResult instance.base.words after caller ⊎ IsStepsReply lawful instance.step (slot_reply caller after)

@@ -35,7 +35,7 @@ pub pushed_other : (pairs : List (ℕ × ℕ)) (p : ℕ × ℕ) (at : ℕ) → (
 pushed_other [] p at apart = word_other p [] at apart
 pushed_other (q ∷ pairs) p at apart = ap (λ w. if q.0 == at then q.1 else w) (pushed_other pairs p at apart)
 
--- it leaves them rising, where its address is above the others
+-- one pair more leaves the addresses rising, where its address is above the others
 pub pushed_rises : (from : ℕ) (pairs : List (ℕ × ℕ)) (p : ℕ × ℕ) → RiseFrom from pairs → Below p.0 pairs → from ≤ p.0 → RiseFrom from (pairs ++ p ∷ [])
 pushed_rises from [] p rising below above = (above, tt)
 pushed_rises from (q ∷ pairs) p rising below above =

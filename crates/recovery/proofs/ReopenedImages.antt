@@ -32,7 +32,7 @@ module _ (image : Image) (readable : IsReadable image.lines image) (size : HasSi
   long_all : length all ≡ image_size image.callers image.lines
   long_all = length-map-range_with_len (image_word image.pairs) 0 image.count ∙ size
 
-  -- so many words
+  -- words that are those of all replicas are 8 for each of their lines
   long_is : (words : List ℕ) → words ≡ all → length words ≡ 8 * (region_lines image.lines * (2 * image.callers))
   long_is words is = ap length is ∙ long_all ∙ in_lines image.callers image.lines
 

@@ -21,7 +21,7 @@ leads_behind ls from (code ∷ codes) to leads =
     let b = behind ls w.caller w.local w.of_caller in
     (leads.0, record { caller = w.caller; local = b.0; of_caller = b.1; won = ap (λ (l : Local). l.won) b.2 ∙ w.won }, leads_behind ls code codes to leads.2)
 
--- their chain is that of those behind
+-- a chain of codes by what is shown of local states is one by the local states themselves
 pub chain_behind : (words : List ℕ) (ls : List Local) (codes : List ℕ) → IsCodeChain words (map shown ls) codes → IsCodeChain words ls codes
 chain_behind words ls [] chain = absurd chain
 chain_behind words ls (code ∷ codes) chain = (chain.0, leads_behind ls code codes _ chain.1)

@@ -2,7 +2,7 @@
 
 use cx_base::OpWords;
 
-/// The outcome of a caller's last entry that a base has.
+/// The outcome of a caller's last entry, as a base has it.
 #[derive(Clone, Debug, PartialEq, Eq, Drop)]
 pub enum Outcome {
     /// No entry of the caller's was applied.

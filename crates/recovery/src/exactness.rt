@@ -1,4 +1,4 @@
-//! The law that recovery refuses an image exactly where a check fails.
+//! The law that recovery refuses an image exactly where a check fails, unless memory runs out.
 
 ghost use Rattle.std.specs.Prelude.{◌≢◌, Err, MatchResult};
 ghost use Rattle.recovery.specs.Recovery.{IsExactly, IsFaultOf, IsRecovered};

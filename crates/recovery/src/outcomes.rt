@@ -17,7 +17,7 @@ use crate::region::reply_words;
 use cx_base::{OP_WORDS, Object, OpWords};
 use cx_core::{Base, OBJECT_START, slot_start};
 
-/// The outcome of a caller's last entry that a base has: its number and its reply, or that no entry of the caller was ever applied.
+/// The outcome of a caller's last entry, as a base has it: the entry's number and its reply, or that no entry of the caller was ever applied.
 pub fn outcome(base: &Base, caller: u32) -> Outcome
     requires caller { caller < 8 }
     requires words { OBJECT_START ≤ length base.now.words }

@@ -57,7 +57,7 @@ module _ {O : Type 0} (o : Ghosts O) (r : Running O) (held : Right) (before afte
     rest = ap (unchanged_by_access held.replica) leaves.seat ∙ was.rest;
   }
 
-  -- the set is told still, by the lines of the object
+  -- where what a caller noted tells a write set of a ticket, it still does after gaps were noted, with the lines counted by the object
   pub tells_noting : (ticket : ℕ) (pairs : List ℕ) → r.lines ≡ o.line_count r.object → TellsSet (o.line_count r.object) (o.lawful r.object) r.base (o.step r.object) before.known ticket pairs →
       TellsSet (o.line_count r.object) (o.lawful r.object) r.base (o.step r.object) after.known ticket pairs
   tells_noting ticket pairs same tells =

@@ -35,7 +35,7 @@ pub record StoresSet (ticket : ℕ) (set : List ℕ) (before after : Seated) : T
   pub read : sets_read after.known.sets ≡ sets_read before.known.sets + 1
   pub accesses : after.known.accesses ≡ before.known.accesses ++ set_stores set
 
--- Such a set was stored over the words that the replica held exclusively had.
+-- One set more was read, and its pairs were stored over the words that the replica held exclusively had.
 pub record IsBroughtBySet {O : Type 0} (o : Ghosts O) (r : Running O) (ticket : ℕ) (set : List ℕ) (before after : Seated) : Type 0 where
   pub by : StoresSet ticket set before after
   pub stores : Becomes (FitsIn o r before.known) (FitsIn o r after.known) (λ was now. now ≡ put_over set was)

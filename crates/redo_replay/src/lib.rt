@@ -7,7 +7,7 @@
 //! A write set is stored over a replica that a caller holds exclusively, in place of the full step of its entry. Here each entry may go either way.
 //!
 //! - The full step of the entry of the replica's place is done, and each store of it is noted: `apply_noting` (`ready`). Where the set has
-//!   room for all, it is told to be a write set of the entry's ticket: whatever fits, the seat's entries and sets lead to the image at the
+//!   room for all, it is known to be a write set of the entry's ticket: whatever fits, the seat's entries and sets lead to the image at the
 //!   ticket, and the pairs from there to the next (`tells`: `TellsSet`). So it may be offered (`known_sets_may_be_offered` of `table_invariant`). The gaps
 //!   that it leaves are noted in the ring for its ticket, which is in no contract: it changes nothing but the steps.
 //! - The set of the ticket that is the replica's place makes it the image after the next place, where its caller has that set: read whole,

@@ -150,7 +150,7 @@ fn step_noting<O: Object, J: KnowledgeAtStart>(
 }
 
 /// Does the full step of the entry of the place of a replica held exclusively, as `apply` of `replica` does, and notes what it stores. It
-/// answers whether the set has room for all: then it is told to be a write set of the entry's ticket, and the gaps that it leaves are noted in the
+/// answers whether the set has room for all: then it is known to be a write set of the entry's ticket, and the gaps that it leaves are noted in the
 /// ring for that ticket. `Halt` comes only where the seat's steps equal its limit.
 pub fn apply_noting<O: Object>(
     shared: &Shared<O>,

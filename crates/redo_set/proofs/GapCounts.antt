@@ -83,7 +83,7 @@ pub steps_most : (n s : ℕ) → steps_on n s ≤ s + n
 steps_most zero s = omega arith
 steps_most (suc n) s = (let most = steps_most n s in omega (arith, most))
 
--- so no more steps were made than gaps were to be noted
+-- no more steps were made than gaps were to be noted
 pub notes_most : {A E : Type 0} (n most : ℕ) (before after : Seated) (result : Result A E) → n ≤ most → NotesGaps n before after result → StepsBy most before after
 notes_most n most before after (Ok x) few is = (let all = steps_most n before.known.local.steps in omega (arith, few, is, all))
 notes_most n most before after (Err e) few part =

@@ -98,7 +98,8 @@ module _ {O : Type 0} (o : Ghosts O) (r : Running O) where
     fits = inr fits;
   }
 
-  -- Where what a caller notes tells a write set of a ticket, it tells each gap that this set leaves, as the word of that gap names it.
+  -- Where what a caller noted tells a write set of a ticket, what it has noted after it noted gaps tells each gap that this set leaves, as a word `v`
+  -- of a slot `s` names the gap.
   pub tells_gap : (pairs : List ℕ) (ticket from to s v : ℕ) (before after : Seated) → KeepsNoting o r before after → MayNote o r ticket pairs before → LeavesGap pairs from to → gap_of r.callers s v ≡ record { ticket = ticket; from = from; to = to } →
       (set_ : List ℕ) × TellsGap r.lines (o.lawful r.object) r.base (o.step r.object) after.known (gap_of r.callers s v) set_
   tells_gap pairs ticket from to s v before after leaves may gap names =
@@ -107,7 +108,7 @@ module _ {O : Type 0} (o : Ghosts O) (r : Running O) where
       let of_gap : TellsGap r.lines (o.lawful r.object) r.base (o.step r.object) after.known g pairs = record { tells = tells; off = gap } in
       (pairs, subst (λ (x : Gap). TellsGap r.lines (o.lawful r.object) r.base (o.step r.object) after.known x pairs) (sym names) of_gap)
 
-  -- what a caller notes tells of a ticket's write set it tells after gaps were noted too
+  -- where what a caller noted tells a write set of a ticket, it still does after gaps were noted
   pub tells_after_noting : (pairs : List ℕ) (ticket : ℕ) (before after : Seated) → KeepsNoting o r before after → TellsSet r.lines (o.lawful r.object) r.base (o.step r.object) before.known ticket pairs →
       TellsSet r.lines (o.lawful r.object) r.base (o.step r.object) after.known ticket pairs
   tells_after_noting pairs ticket before after leaves tells =

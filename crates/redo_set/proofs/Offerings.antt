@@ -41,7 +41,8 @@ module _ (lines : ℕ) (lawful : List ℕ → Type 0) (base : Base) (step : List
   pub fits_still : (accesses : List Note) (first now : List ℕ) → FitsOn lines lawful base step (has_of k') accesses first now → FitsOn lines lawful base step (has_of k) accesses first now
   fits_still accesses first now f = record { fits = f.fits; stays = λ place mid chain. f.stays place mid (chain_still still.entry still.set first place mid chain) }
 
-  -- What a seat tells of a ticket's write set, another that has as much tells too, and of each list with the same pairs.
+  -- Where what a seat knows tells a write set of a ticket, a seat with the same accesses that has at least as much tells the set too, and each list
+  -- with the same pairs.
   pub tells_still : k'.accesses ≡ k.accesses → (ticket : ℕ) (pairs set : List ℕ) → ((i : ℕ) → i < 2 * slice_index pairs 0 + 1 → slice_index set i ≡ slice_index pairs i) → TellsSet lines lawful base step k ticket pairs →
       TellsSet lines lawful base step k' ticket set
   tells_still accesses ticket pairs set same tells =
@@ -118,7 +119,7 @@ module _ (s : Seated) (j : ℕ) (can : CanWriteSet s.known.local j) (cells : Has
   pub written_none : (pairs : List ℕ) → length old.set ≡ 513 → HasWritten j pairs 0 s s
   written_none pairs long = record { words = old.set; long = long; same = λ n below. absurd (omega arith); is = none_put }
 
-  -- one word more is there already
+  -- where the words of a set are written below `i`, and word `i` is there already, they are written below `i + 1`
   pub written_kept : (pairs : List ℕ) (i v : ℕ) (t u : Seated) → v ≡ slice_index pairs i → HasWritten j pairs i s t → slice_index (cell_of t.known.local j).set i ≡ v → u ≡ t → HasWritten j pairs (i + 1) s u
   written_kept pairs i v t u value was here same_seat = record {
     words = was.words;
@@ -130,7 +131,7 @@ module _ (s : Seated) (j : ℕ) (can : CanWriteSet s.known.local j) (cells : Has
     is = same_seat ∙ was.is ∙ (λ k. seat_with_set j was.words old.offer (sym same_seat k).known.local.steps s);
   }
 
-  -- or was written
+  -- where the words of a set are written below `i`, and then word `i` is written, they are written below `i + 1`
   pub written_more : (instance : Instance) (pairs : List ℕ) (i v : ℕ) (t u : Seated) → i < 513 → v ≡ slice_index pairs i → HasWritten j pairs i s t → u ≡ stepped instance (WriteSet j i v) t 0 → HasWritten j pairs (i + 1) s u
   written_more instance pairs i v t u below value was step =
       let new = set was.words i v in

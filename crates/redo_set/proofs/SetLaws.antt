@@ -40,14 +40,14 @@ module _ (set : List ℕ) (at v : ℕ) (long : length set ≡ 513) (room : slice
       ∙ get_or-set_other one (2 * slice_index set 0 + 2) (2 * slice_index set 0 + 1) v 0 (λ e. omega (arith, e))
       ∙ get_or-set_same set (2 * slice_index set 0 + 1) at 0 (omega (arith, long, room))
 
-  -- the pairs before it stay
+  -- the pairs of a set stay where one more is put behind them
   pair_rest : (i : ℕ) → 0 < i → i < 2 * slice_index set 0 + 1 → slice_index (set_with_pair at v set) i ≡ slice_index set i
   pair_rest i some below =
       get_or-set_other two 0 i (slice_index set 0 + 1) 0 (λ e. omega (arith, e, some))
       ∙ get_or-set_other one (2 * slice_index set 0 + 2) i v 0 (λ e. omega (arith, e, below))
       ∙ get_or-set_other set (2 * slice_index set 0 + 1) i at 0 (λ e. omega (arith, e, below))
 
-  -- it is stored last
+  -- the pair that is put behind the others is stored last
   pub pair_put : (words : List ℕ) → put_over (set_with_pair at v set) words ≡ slice_set (put_over set words) at v
   unfolding put_over
   pair_put words =

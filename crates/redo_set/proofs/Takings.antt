@@ -116,13 +116,13 @@ module _ {O : Type 0} (r : Running O) where
   }
 
   module _ (step : O → List ℕ → List ℕ → List ℕ × List ℕ) (reads : O → List ℕ → Bool) where
-    -- by the look at an offer
+    -- what the look at an offer leaves of the seat
     pub leaves_looked : (cell ticket found : ℕ) (s t : Seated) → Steps r step reads (LoadOffer cell ticket) found s t → KeepsTaking r s t
     leaves_looked cell ticket found s t made =
         leaves_of r (Some (record { cell = cell; ticket = ticket; word = found })) (one_more s.known.local.steps) [] s t (looked_is (instance_at r step reads) cell ticket found s t made.made) made.seat
         (on_step r step reads (LoadOffer cell ticket) found s t made)
 
-    -- and by a word that was read
+    -- what the reading of a word of a set leaves of the seat
     leaves_word : (cell ticket i v : ℕ) (s t : Seated) → Steps r step reads (ReadSet cell ticket i) v s t → KeepsTaking r s t
     leaves_word cell ticket i v s t made =
         leaves_of r s.known.local.seen_offer (one_more s.known.local.steps) (note ticket i v ∷ []) s t (read_one (instance_at r step reads) cell ticket i v s.known.local.seen_offer s.known.local.steps [] s s t (none_is s) made.made) made.seat

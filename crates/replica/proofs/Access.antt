@@ -50,7 +50,7 @@ still_on f replica same None (Some y) q e on = absurd (none-some (f y) e)
 still_on f replica same (Some x) None q e on = absurd (none-some q on)
 still_on f replica same (Some x) (Some y) q e on = ap Some (sym (same x) ∙ ap replica (same_Some (f x) (f y) e) ∙ same y) ∙ on
 
--- a right stays exclusive from one seat to another that differ in what an access of the replica changes alone
+-- an exclusive right stays where two seats differ only in what an access of the replica `q` changes
 pub still_exclusive : (callers q : ℕ) (before after : Seated) (held : Right) → unchanged_by_access q after ≡ unchanged_by_access q before → IsExclusiveOf callers before held → IsExclusiveOf callers after held
 still_exclusive callers q before after held same of = record {
   few = of.few;

@@ -31,7 +31,7 @@ unloaded_all : (r i found : ℕ) (o : Option HeldShared) → option_map except_l
 unloaded_all r i found None = refl
 unloaded_all r i found (Some h) = refl
 
--- a right stays exclusive from one seat to another that differ in what a copy changes alone
+-- an exclusive right stays where two seats differ only in what a copy changes
 exclusive_still : (callers : ℕ) (before after : Seated) (held : Right) → unchanged_by_copy after ≡ unchanged_by_copy before → IsExclusiveOf callers before held → IsExclusiveOf callers after held
 exclusive_still callers before after held same of = record {
   few = of.few;
@@ -54,7 +54,7 @@ load_rest r step reads q at found before after s =
     ∙ ap (λ n. beside before n exclusive (option_map except_loads (option_map (loaded_into q at found) before.known.local.shared))) (append-nil before.known.noted)
     ∙ ap (λ o. beside before before.known.noted exclusive o) (unloaded_all q at found before.known.local.shared)
 
--- and neither does a store
+-- a store changes nothing beside a copy
 store_rest : {O : Type 0} (r : Running O) (step : O → List ℕ → List ℕ → List ℕ × List ℕ) (reads : O → List ℕ → Bool) (q at v : ℕ) (before after : Seated) → Steps r step reads (StoreWord q at v) 0 before after → unchanged_by_copy after ≡ unchanged_by_copy before
 store_rest r step reads q at v before after s =
     let shared = option_map except_loads before.known.local.shared in
@@ -117,7 +117,7 @@ module _ {O : Type 0} (o : Ghosts O) (r : Running O) (held source : Right) (from
             (longer_run (instance_at r o.step o.only_reads) q from found first before.known mid.known was.1)),
       )
 
-  -- and so do two, one behind the other
+  -- two runs of loads, one behind the other, leave both rights, and tell of each of their words
   pub two_runs : (q p : ℕ) (us vs : List ℕ) (first mid last : Seated) → HoldsBothIn o r first held source → Runs r o.step o.only_reads (o.lawful r.object) (loads_from q from) us first mid → Runs r o.step o.only_reads (o.lawful r.object) (loads_from p from) vs mid last → RunsBoth o r held source from q p us vs first mid last
   two_runs q p us vs first mid last both run then =
       let one = one_run q us first mid both run in

@@ -69,7 +69,7 @@ copied_loaded P skips n region before k k' above load copied = record {
   loaded = λ x has. load.kept x (copied.loaded x has);
 }
 
--- so it goes on where it was past a run of them
+-- a copy goes on where it was after a run of loads
 pub on_run : (r from : ℕ) (words : List ℕ) (k k' : Known) → IsRunOf r from words k k' → CopiesOn from from k k'
 on_run r from words k k' run skips region first below kept copied = copied_loaded (IsIn from (length words)) skips from region first k k' (λ i x. x.0) run.loaded copied
 
@@ -114,7 +114,7 @@ apart_from : (skips : ℕ → Bool) (n i : ℕ) → skips n ≡ false → (n + 1
 apart_from skips n i kept (inl from) e = (let same : i ≡ n = e in absurd (omega (arith, same, from)))
 apart_from skips n i kept (inr skip) e = false≢true (sym kept ∙ ap skips (sym e) ∙ skip)
 
--- and so is one that is not, once the source's word is stored over it
+-- a word that differs in the two replicas is copied once the source's word is stored over it
 pub copied_over : (instance : Instance) (h u v n region : ℕ) (skips : ℕ → Bool) (before k : Known) → n < region → skips n ≡ false → u ≢ v → IsSeen n u v k → IsCopiedTo skips n region before k → IsCopiedTo skips (n + 1) region before (known_after instance (StoreWord h n v) k 0)
 copied_over instance h u v n region skips before k below kept differ seen copied =
     let now = known_after instance (StoreWord h n v) k 0 in
@@ -217,7 +217,7 @@ of_piece line some lines n under few first (inl none) long i least below = (let 
 of_piece line some lines n under few first (inr (inl next)) long i least below = omega (arith, next, few, long, least, below)
 of_piece line some lines n under few first (inr (inr end_)) long i least below = absurd (omega (arith, end_, under))
 
--- and behind it the next begins
+-- behind a piece the next piece begins, or the lines end
 pub piece_next : (line some lines : ℕ) → (line ≡ 0 → some ≡ 1) → (some ≡ 8) ⊎ ((line + some ≡ lines) ⊎ (line ≡ 0)) → (line ≡ 0) ⊎ ((line % 8 ≡ 1) ⊎ (line ≡ lines)) → line < lines → (line + some ≡ 0) ⊎ (((line + some) % 8 ≡ 1) ⊎ (line + some ≡ lines))
 piece_next line some lines first more (inl none) under = (let one = first none in inr (inl (omega (arith, none, one))))
 piece_next line some lines first (inl eight) (inr (inl next)) under = inr (inl (omega (arith, eight, next)))

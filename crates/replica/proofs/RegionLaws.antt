@@ -107,7 +107,7 @@ module _ {O E : Type 0} (lines : ℕ) (r : Running O) (lawful : List ℕ → Typ
   held_after note placed (Err e) made halts of within place =
       subst (λ (s : Seated). IsHeld lines r lawful step s held × IsWithinLimit s.known.local × (IsTrue placed → HasPlace s.known.accesses)) (sym halts.same) (of, within, place)
 
-  -- so many steps as were made before still are
+  -- no step is taken back, whether the access was made or not
   pub since_after : {A : Type 0} (note : A → Note) (began : ℕ) (result : Result A E) → IfOk result (λ x. Accesses lines r lawful step held (note x) old new) → OnErr result (Halts r old new) → HasMadeSteps began old → HasMadeSteps began new
   since_after note began (Ok x) made halts was = (let one = made.steps in omega (arith, one, was))
   since_after note began (Err e) made halts was = subst (λ s. HasMadeSteps began s) (sym halts.same) was
@@ -117,7 +117,7 @@ module _ {O E : Type 0} (lines : ℕ) (r : Running O) (lawful : List ℕ → Typ
   stands_read at (Ok v) made = subst (λ xs. Loaded at v (ReadFits lines lawful r.base (loaded_of old.known.local.shared)) (ReadFits lines lawful r.base xs)) (sym made.loaded) (read_load lines lawful r.base (loaded_of old.known.local.shared) at v)
   stands_read at (Err e) made = tt
 
-  -- so does one held shared, and a place that was loaded still is
+  -- a replica held shared still is, whether the load was made or not, and a place that was loaded still is among the words loaded
   pub shared_after : (at : ℕ) (placed : Option ℕ) (result : Result ℕ E) → IfOk result (λ v. LoadsShared lines r lawful held at v old new) → OnErr result (Halts r old new) →
       IsHeldShared lines r lawful old held → IsWithinLimit old.known.local → IsTrue (has_loaded placed (loaded_of old.known.local.shared)) →
       IsHeldShared lines r lawful new held × IsWithinLimit new.known.local × IsTrue (has_loaded placed (loaded_of new.known.local.shared))
@@ -137,7 +137,7 @@ pub some_run : {A E : Type 0} {load : ℕ → ℕ → Seated → Seated → Type
 some_run {load = load} {from = from} {old = old} {new = new} (Ok x) words run = (length words, subst (λ ws. LoadsRun load from ws old new) (sym (take_all (length words) words (omega arith))) run)
 some_run (Err e) words halted = halted.some
 
--- and what follows where all were loaded, follows of a result that is no error
+-- what follows where all words were loaded, follows of a result that is no error
 pub run_then : {A E P : Type 0} {load : ℕ → ℕ → Seated → Seated → Type 0} {from : ℕ} {words : List ℕ} {old new : Seated} (result : Result A E) → (LoadsRun load from words old new → P) → MatchResult result (λ _. LoadsRun load from words old new) (λ _. HaltsLoading load from words old new) → OnOk result P
 run_then (Ok x) follows run = follows run
 run_then (Err e) follows halted = tt

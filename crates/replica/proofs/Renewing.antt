@@ -43,7 +43,7 @@ loads_there : (loaded : List (ℕ × ℕ)) (first now : List ℕ) → NotesLead 
 loads_there [] first now leads = All-nil (λ (x : ℕ × ℕ). slice_index first x.0 ≡ x.1)
 loads_there (x ∷ loaded) first now leads = All-cons (λ (y : ℕ × ℕ). slice_index first y.0 ≡ y.1) x loaded leads.0 (loads_there loaded first now leads.1)
 
--- so all loads of one place give the same word
+-- all loads of the place of a replica held shared give the same word
 pub loaded_once : (lines : ℕ) (lawful : List ℕ → Type 0) (base : Base) (loaded : List (ℕ × ℕ)) (v p : ℕ) → SomeReadFits lines lawful base loaded → word_noted None 0 (loads_of loaded) ≡ Some v → Contains loaded (0, p) → v ≡ p
 loaded_once lines lawful base loaded v p some last has = ∥∥₁_elim some (hlevel props) (λ f. (
     let first = f.0 in
@@ -89,7 +89,7 @@ module _ {O : Type 0} (lines : ℕ) (r : Running O) (step : O → List ℕ → L
         noted 0 ∙ sym (place_is before.known.accesses 0 first.0 first.1),
       )
 
-  -- which is the place that was loaded of the replica held shared
+  -- the place of the image that was copied is the one that was loaded of the replica held shared
   pub renewed_place : (p : ℕ) → IsCopiedWord before.known 0 → Contains (loaded_of old.shared) (0, p) → place_noted 0 after.known.accesses ≡ p
   renewed_place p first has =
       ap (λ (s : Seated). place_noted 0 s.known.accesses) copied.made ∙ place_is (loads_of (loaded_of old.shared)) 0 first.0 first.2 ∙ loaded_once lines lawful r.base (loaded_of old.shared) first.0 p both.shared.some first.2 has
@@ -115,7 +115,7 @@ module _ {O : Type 0} (o : Ghosts O) (r : Running O) (held source : Right) (firs
             ∙ ap without_shared leaves.rest;
       }
 
-  -- its steps are those of the copy, and one
+  -- a copy with the release of the shared right makes at most one step more than the copy
   module _ (n : ℕ) (bound : StepsBy n first mid) where
     pub copied_within : StepsWithin r (n + 1) first mid
     copied_within = record { seat = leaves.both.exclusive.of; since = leaves.since; most = omega (arith, bound) }
@@ -128,6 +128,6 @@ module _ {O : Type 0} (o : Ghosts O) (r : Running O) (held source : Right) (firs
         let same = ap (λ (s : Seated). s.known.local.steps) step.halted.same in
         record { seat = step.halted.seat; since = on_then first mid last leaves.since (on_still mid last same); most = omega (arith, bound, same) }
 
-  -- and where the limit ends it before the right was given back, nothing else is changed
+  -- where the limit comes before the shared right is given back, nothing is changed but what the copy changed
   pub release_halts : Halts r mid last → HaltsUnchanged unchanged_by_copy first last
   release_halts halted = record { rest = ap unchanged_by_copy halted.same ∙ leaves.rest; limit = subst (λ (s : Seated). IsAtLimit s.known.local) (sym halted.same) halted.limit }

@@ -69,7 +69,7 @@ module _ (lines : ℕ) (lawful : List ℕ → Type 0) (base : Base) (step : List
   pub image_below : (known : Known) (bound : ℕ) → IsHeldImage lines lawful base step known → place_noted 0 known.accesses < bound → (first now : List ℕ) → FitsKnown lines lawful base step known first now → place_of now < bound
   image_below known bound image small first now f = subst (λ p. p < bound) (sym (image_at known image first now f)) small
 
-  -- it is lawful as a base: what was applied leads to it
+  -- the image after its place is lawful as a base: what was applied leads to it
   image_law : (known : Known) → IsHeldImage lines lawful base step known → (first now : List ℕ) → FitsKnown lines lawful base step known first now → LawfulBase lines lawful (base_of now)
   image_law known image first now f =
       subst (λ p. LawfulBase lines lawful (let b : Base = record { place = p; words = now } in b)) (sym (image_at known image first now f)) (f.stays (place_noted 0 known.accesses) now (image.replayed first now f))
@@ -85,11 +85,11 @@ module _ (lines : ℕ) (lawful : List ℕ → Type 0) (base : Base) (step : List
       let place : place_noted 0 new.accesses ≡ next = ∥∥₁_elim some (hlevel props) (λ p. (let f = p.2 in sym (noted_at new.accesses begun p.0 p.1 f.fits) ∙ (f.stays next p.1 (leads p.0 p.1 f)).at_place)) in
       (record { begun = begun; replayed = λ first now f. subst (λ t. ReplayedTo step (has_of new) first t now) (sym place) (leads first now f) }, place)
 
-  -- what it has leads to the image that was there
+  -- what a seat has leads to the image that was there
   led_to : (old new : Known) → has_of new ≡ has_of old → IsHeldImage lines lawful base step old → (first before : List ℕ) → FitsKnown lines lawful base step old first before → ReplayedTo step (has_of new) first (place_noted 0 old.accesses) before
   led_to old new same image first before f = subst (λ h. ReplayedTo step h first (place_noted 0 old.accesses) before) (sym same) (image.replayed first before f)
 
-  -- and on to the next, by the full step of an entry that it has
+  -- what a seat has leads on to the image after the next place, by the full step of an entry that the seat has
   entry_on : (old new : Known) (entry : Entry) (reply : List ℕ) → has_of new ≡ has_of old → HasPlace new.accesses → SomeFits lines lawful base step new → IsHeldImage lines lawful base step old → (has_of old).entry (place_noted 0 old.accesses) entry →
       Becomes (FitsKnown lines lawful base step old) (FitsKnown lines lawful base step new) (IsStepped step entry reply) → IsHeldImage lines lawful base step new × (place_noted 0 new.accesses ≡ place_noted 0 old.accesses + 1)
   entry_on old new entry reply same begun some image had becomes = image_on old new begun some (λ first now f. (
@@ -97,7 +97,7 @@ module _ (lines : ℕ) (lawful : List ℕ → Type 0) (base : Base) (step : List
       let b = becomes.from first now f in
       with_entry (ticket + 1) now ticket b.0 entry refl b.2.words (subst (λ (h : Has). h.entry ticket entry) (sym same) had) (led_to old new same image first b.0 b.1)))
 
-  -- or by a write set that it has
+  -- what a seat has leads on to the image after the next place, by a write set that the seat has
   pub set_on : (old new : Known) (pairs : List ℕ) → has_of new ≡ has_of old → HasPlace new.accesses → SomeFits lines lawful base step new → IsHeldImage lines lawful base step old → (has_of old).set (place_noted 0 old.accesses) pairs →
       Becomes (FitsKnown lines lawful base step old) (FitsKnown lines lawful base step new) (λ before now. now ≡ stored (slice_index pairs 0) pairs before) → IsHeldImage lines lawful base step new × (place_noted 0 new.accesses ≡ place_noted 0 old.accesses + 1)
   set_on old new pairs same begun some image had becomes = image_on old new begun some (λ first now f. (
@@ -169,7 +169,7 @@ module _ {O : Type 0} (o : Ghosts O) (r : Running O) (held : Right) where
       record { is_held = made.still; image = image.0; place = image.1 }
   begins_ready before after (Err e) none made = tt
 
-  -- and nothing is stored by it
+  -- a load of the place stores nothing, whether it was made or not
   pub begins_unstored : {E : Type 0} (before after : Seated) (result : Result ℕ E) → StoresNone before.known.accesses → IfOk result (λ v. Accesses (o.line_count r.object) r (o.lawful r.object) (o.step r.object) held (false, 0, v) before after) → OnOk result (StoresNone after.known.accesses)
   begins_unstored before after (Ok v) none made = subst StoresNone (sym made.accesses) (All-push (λ (note : Note). note.0 ≡ false) before.known.accesses (false, 0, v) none refl)
   begins_unstored before after (Err e) none made = tt

@@ -34,7 +34,7 @@ pub record IsTaken {O : Type 0} (lines : ℕ) (r : Running O) (lawful : List ℕ
 abbrev pub IsTakenIn : {O : Type 0} → Ghosts O → Running O → Seated → Right → Type 0
 IsTakenIn o r = IsTaken (o.line_count r.object) r (o.lawful r.object) (o.step r.object)
 
--- a try of a replica that found its lock free holds it exclusively then, with nothing noted and no word dirty
+-- where a caller's try of a replica found its lock free, the caller holds the replica exclusively, with nothing noted of it and no word dirty
 pub taken_held : {O : Type 0} (lines : ℕ) (r : Running O) (step : O → List ℕ → List ℕ → List ℕ × List ℕ) (reads : O → List ℕ → Bool) (lawful : List ℕ → Type 0) (q found : ℕ) (before after : Seated) (held : Right) →
     IsSized lines r → Steps r step reads (TryExclusive q) found before after → TriedExclusive r.callers q after found (Some held) → Fitting r.lines lawful r.base (step r.object) after.known → IsTaken lines r lawful (step r.object) after held
 taken_held lines r step reads lawful q found before after held sized s tried fits =

@@ -46,7 +46,7 @@ module _ {O : Type 0} (r : Running O) where
     reads = λ h. omega (arith, g.reads h, total_both (handed_reads h) xs (Idle x ∷ []));
   }
 
-  -- a client's part, which keeps nobody
+  -- to take in a client that keeps no caller adds what its pass holds, and no further caller
   pub gathers_no_more : (v w : LenderPass) (xs : List Handed) (kept : Option Handed) → kept ≡ None → Gathers r v.held xs → Gathers r w.held (kept_list kept) → Gathers r (both v w).held xs
   gathers_no_more v w xs kept none g k =
       let l = subst (λ (o : Option Handed). Gathers r w.held (kept_list o)) none k in
@@ -56,11 +56,11 @@ module _ {O : Type 0} (r : Running O) where
       append_none [] = refl
       append_none (y ∷ ys) = ap (λ zs. y ∷ zs) (append_none ys)
 
-  -- or a caller
+  -- to take in a client that keeps a caller adds what its pass holds, and that caller
   pub gathers_kept : (v w : LenderPass) (xs : List Handed) (kept : Option Handed) (x : Handed) → kept ≡ Some x → Gathers r v.held xs → Gathers r w.held (kept_list kept) → Gathers r (both v w).held (xs ++ x ∷ [])
   gathers_kept v w xs kept x some g k = gathers_both v.held w.held xs (x ∷ []) g (subst (λ (o : Option Handed). Gathers r w.held (kept_list o)) some k)
 
-  -- there is room for it
+  -- there is room among the callers gathered for the one that a client keeps
   pub kept_fits : (v w : LenderPass) (xs : List Handed) (kept : Option Handed) (x : Handed) → kept ≡ Some x → Gathers r v.held xs → Gathers r w.held (kept_list kept) → length (both v w).held ≤ r.callers → length xs < r.callers
   kept_fits v w xs kept x some g k most =
       let l = subst (λ (o : Option Handed). Gathers r w.held (kept_list o)) some k in

@@ -38,7 +38,7 @@ stands a (suc k) (suc n) lt =
     let same : total_weight (one_at (a + suc k)) (range_with_len (a + 1) n) ≡ total_weight (one_at (a + 1 + k)) (range_with_len (a + 1) n) = (let same : a + suc k ≡ a + 1 + k = omega arith in ap (λ q. total_weight (one_at q) (range_with_len (a + 1) n)) same) in
     omega (arith, rest, same)
 
--- a number that all numbers from a on lie below does not stand among them
+-- a number above all of the n numbers from a on does not stand among them
 not_below : (m a n : ℕ) → a + n ≤ m → total_weight (one_at m) (range_with_len a n) ≡ 0
 not_below m a zero most = refl
 not_below m a (suc n) most =

@@ -191,7 +191,7 @@ same_room views pass v w n at placed room =
 pub begins : Pools [] (fresh ∷ [])
 begins = inl (refl, refl)
 
--- there are no more callers in the queue than the pass leaves
+-- the callers that a pass holds and those in the queue are together no more than the service has
 has_room : {O : Type 0} (r : Running O) (v : LenderPass) (items : List Seated) (views : List LenderPass) (pass : ℕ) → KeepsCallers items views → IsHomeOf r v.home → get_elem? views pass ≡ some v → length v.held + length items ≤ callers_at v.home
 has_room r v items views pass k of at =
     let count = count_fits r k.service v.parts v.home of (k.views_are pass v at).home in
@@ -238,7 +238,7 @@ module _ {O : Type 0} where
         refl,
       )
 
-  -- the first caller held is given back with further calls, which are told
+  -- the first caller held is given back with further calls, of which the pass is told
   pub gives : (n pass : ℕ) (r : Running O) (v : LenderPass) (x : Seated) → IsHomeOf r v.home → 0 < v.parts → IsFirstOf v.held x → IsCallerOf r x → HasLimit (limits_at v.home) x → Pushes Pools n pass v x (λ w. w ≡ with_given v x)
   gives n pass r v x of some_part first is limit items views short (inl new) at = absurd (is_not_new r v views pass of new.1 at)
   gives n pass r v x of some_part first is limit items views short (inr k) at =

@@ -52,7 +52,7 @@ module _ {O : Type 0} (r : Running O) where
       same_calls after n (before.known.local.own ++ e ∷ []) (before.known.local.answered ++ answer ∷ []) done.links.number done.links.own done.answered
       ∙ one_more_call n before.known.local.own before.known.local.answered e answer same
 
-  -- a caller that an update answered is given back: the pass is told the update's entry with its answer, and nothing else
+  -- a caller that an update answered is given back: the pass is told of the update's entry with its answer, and of no other call
   pub are_told : (op : List ℕ) (taken before after : Seated) (rest : List Seated) (answer : Answer) (v : LenderPass) → v.held ≡ taken ∷ rest → StaysIdle r taken before → UpdateDone r op before after answer
       → IsFirstOf v.held after × (told_calls_after_giving v after ≡ v.told_calls ++ call_with before.known.local.number (next_entry r before.known.local op answer.ticket) answer ∷ [])
   are_told op taken before after rest answer v holds idle done =
@@ -94,7 +94,7 @@ module _ {O : Type 0} (r : Running O) where
     reads = λ h. (let same : total_weight h now.known.local.seen_reads ≡ total_weight h (taken.known.local.seen_reads ++ idle.more) = ap (total_weight h) idle.reads in omega (arith, same, total_both h taken.known.local.seen_reads idle.more));
   }
 
-  -- a stopped caller, with what no call told, and reads that nobody was shown
+  -- a stopped caller may be kept, with at most one answered call of which nobody was told, and with reads that nobody was shown
   stopped : (taken : Seated) (s : StoppedSeat) (untold : List AnsweredCall) (reads : List SeenRead) → IsStoppedOf r s.seat → s.seat.known.local.number ≡ taken.known.local.number → calls_of s.seat ≡ calls_of taken ++ untold
       → s.seat.known.local.seen_reads ≡ taken.known.local.seen_reads ++ reads → ((h : ℕ → ℕ) → total_weight (λ (t : AnsweredCall). h t.caller) untold ≤ h s.seat.known.local.number) → Gathers r (taken ∷ []) (Stopped s ∷ [])
   stopped taken s untold reads is number calls seen few = record {

@@ -138,7 +138,7 @@ pub record IsPassIdle (v : LenderPass) : Type 0 where
   pub told_calls : v.told_calls ≡ []
   pub shown : v.shown ≡ []
 
--- a pass knows this service, and one without a part has done nothing
+-- a pass with a part knows this service, and one without a part has done nothing
 pub record FitsHand (r : Shown) (v : LenderPass) : Type 0 where
   pub home : FitsHome r v.parts v.home
   pub idle : v.parts ≡ 0 → IsPassIdle v

@@ -22,14 +22,14 @@ pub fn answers_are_told<O: Object>(service: &Service<O>)
         IsFirstOf v.held after × (told_calls_after_giving v after ≡ v.told_calls ++ call_with before.known.local.number (next_entry service.now before.known.local op answer.ticket) answer ∷ []) }
 {}
 
-/// The law that a caller that was answered no entry since it was taken may be given back: in that push the pass learns of no call, and of those reads that
-/// the caller made since.
+/// The law that a caller that was answered no entry since it was taken may be given back: in that push the pass learns of no call, and of the reads
+/// that the caller made since.
 pub fn reads_are_shown<O: Object>(service: &Service<O>)
     ensures { (taken now : Seated) (rest : List Seated) (v : hand_hand.LenderPass) → v.held ≡ taken ∷ rest → (idle : StaysIdle service.now taken now) →
         IsFirstOf v.held now × (told_calls_after_giving v now ≡ v.told_calls) × ((with_given v now).shown ≡ v.shown ++ idle.more) }
 {}
 
-/// The law that a client may keep a caller until the closing where the caller is in no call and was answered none since it was taken.
+/// The law that a client may keep a caller until the closing where the caller is in no call and was answered no entry since it was taken.
 pub fn idle_are_kept<O: Object>(service: &Service<O>)
     ensures { (taken now : Seated) → StaysIdle service.now taken now → Gathers service.now (taken ∷ []) (handed_cases.Idle now ∷ []) }
 {}

@@ -44,7 +44,7 @@ fn open_for<O: Object, K: Known>(
     Ok((line, pass))
 }
 
-/// Places a caller that was answered no call yet in the queue, which has room for all callers of the service. `pass` has every part.
+/// Places in the queue a caller that was answered no entry yet. The queue has room for all callers of the service, and `pass` has every part.
 pub fn place<O: Object, R: Wait>(
     rt: &R,
     service: &Service<O>,

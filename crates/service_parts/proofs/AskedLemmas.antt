@@ -20,7 +20,7 @@ use Rattle.service_parts.specs.declared.call.AskOutcome.TheVariants.{Told}
 
 -- an update behind tries that changed nothing of the caller's lists
 module _ {O : Type 0} (r : Running O) (op : List ℕ) (before u : Seated) (keeps : KeepsLists before u) (idle : IsIdleSince before u) where
-  -- the caller's next entry is the same
+  -- the entry that the caller links next is at `u` as it was before
   same_entry : (ticket : ℕ) → next_entry r u.known.local op ticket ≡ next_entry r before.known.local op ticket
   same_entry ticket =
       ap (λ (n : ℕ). (let e : OwnEntry = record { ticket = ticket; entry = record { caller = n; number = slot_number n r.base.words + length u.known.local.own + 1; op = op } } in e)) keeps.number
@@ -50,7 +50,7 @@ module _ {O : Type 0} (r : Running O) (op : List ℕ) (before u : Seated) (keeps
     inr (answer.ticket, is, done_answered after answer done),
   )
 
--- the same of a read that entered the queue
+-- a read that entered the queue, behind tries that changed nothing of the caller's lists
 module _ {O : Type 0} (r : Running O) (op : List ℕ) (before u : Seated) (keeps : KeepsLists before u) (idle : IsIdleSince before u) where
   pending_keeps : (v : Seated) → ReadPending r 8 u v → KeepsLists before v
   pending_keeps v p = record {

@@ -1,4 +1,4 @@
--- What is told of the object that a closed service had holds of the one that it is recovered by: they are equal.
+-- What holds of the object that a closed service had holds of the object by which the service is recovered: they are equal.
 use Rattle.std.proofs.Common.{◌≡◌, ◌∙◌, ℕ, List, Result, MatchResult, sym, ap, subst, arith}
 use Rattle.cx_base.specs.declared.object.Object.{Ghosts}
 use Rattle.cx_core.specs.declared.entry.Base.{Base}
@@ -22,7 +22,7 @@ module _ {O : Type 0} (o : Ghosts O) where
   Answers object image answer =
       MatchResult answer (IsRecovered (o.version_number object) (o.lawful object) (o.old_format object) image) (IsFaultOf (o.version_number object) (o.lawful object) (o.old_format object) image)
 
-  -- recovery by an object answers no refusal of an image that a closed table of it left, as its law says
+  -- recovery by an object gives no refusal of an image that a closed table of the object left, unless memory runs out, as its law says
   abbrev pub Recovers : Type 0
   Recovers =
       (table : Running O) (seats : List Seated) (r : Remains) (choice : ℕ) (image : Image) (answer : Result Base ImageFault) → IsOpened o.line_count o.lawful table →
@@ -30,7 +30,7 @@ module _ {O : Type 0} (o : Ghosts O) where
       MatchResult answer (IsKeptBy o.line_count o.lawful o.step table seats r choice) (λ fault. fault ≡ Memory)
 
   module _ (object : O) (r : Remains) (choice : ℕ) (left : IsLeftBy o object r) where
-    -- recovery by an object equal to that of the closed table answers no refusal either
+    -- recovery by an object equal to that of the closed table gives no refusal either, unless memory runs out
     pub recovered_of : Recovers → (image : Image) → IsLeftOf r choice image → (answer : Result Base ImageFault) → Answers object image answer → MatchResult answer (IsKeptOf left choice) (λ fault. fault ≡ Memory)
     recovered_of law image left_of answer is =
         law left.table left.seats r choice image answer left.opened left.leaves left_of (subst (λ (x : O). Answers x image answer) (sym left.object_is) is)

@@ -31,7 +31,7 @@ module _ {O : Type 0} (o : Ghosts O) (object : O) where
         };
       }
 
-  -- what a service that was started from a base leaves is left by its object, with its callers and its base
+  -- what a service leaves that was started with this object, number of callers and base is what a service of these leaves
   pub served_of : (callers : ℕ) (base : Base) (service : Running O) (r : Remains) → IsOpen o object callers base service → IsServiceFrom o service.object service.callers service.base r → IsServiceFrom o object callers base r
   served_of callers base service r is served =
       subst (λ (b : Base). IsServiceFrom o object callers b r) is.base_is

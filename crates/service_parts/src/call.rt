@@ -70,7 +70,7 @@ pub fn follow<O: Object, R: Wait>(
     unreachable!()
 }
 
-/// Asks for an operation of any kind until it is answered, as an entry of the queue.
+/// Asks for an operation of any kind, as an entry of the queue, until it is answered, no ticket is left, or the caller is stopped.
 fn update_once<O: Object, R: Wait>(
     rt: &R,
     service: &Service<O>,
@@ -100,7 +100,8 @@ fn update_once<O: Object, R: Wait>(
     unreachable!()
 }
 
-/// Asks for an operation that only reads until it is answered, beside the queue where it can be, and otherwise as an entry of the queue.
+/// Asks for an operation that only reads, beside the queue where it can be and otherwise as an entry of the queue, until it is answered, no ticket is
+/// left, or the caller is stopped.
 fn read_beside<O: Object, R: Wait>(
     rt: &R,
     service: &Service<O>,

@@ -60,9 +60,9 @@ pub fn closed<O: Object>(
     }
 }
 
-/// One life of a service of 1 to 8 callers: it starts from a base, the worker does each caller's work on a thread of its own, and it is
-/// closed. The output of each, of caller 0 first, and what is left: what the worker says of an output is so of its caller. `Err` means out of memory,
-/// and gives nothing back.
+/// One life of a service of 1 to 8 callers: the service starts from a base, the worker does each caller's work, on a thread of its own where one can
+/// be started, and the service is closed. Gives the output of each caller's work, of caller 0 first, and what the service leaves; what the worker
+/// says of an output is so of the caller. `Err` means out of memory, and gives nothing back.
 ///
 /// A life of four callers, and after a crash one of a caller alone. From `crates/shared_bank/src/callers.rt`:
 /// ```rattle

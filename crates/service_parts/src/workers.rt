@@ -28,13 +28,13 @@ pub trait Worker<O: Object> {
     /// The statement that holds of a caller whose work returned this output: about its service, and its seat as it was lent and as it is handed back.
     ghost tells: { Self → Running O → Seated → Seated → Self.Output → Type 0 };
 
-    /// Does the work of one caller, and hands the caller back. The work of each caller runs on a thread of its own.
+    /// Does the work of one caller, and hands the caller back. The work of each caller runs on a thread of its own where one can be started.
     fn work<R: Wait>(&self, rt: &R, service: &Service<O>, caller: Caller) -> Worked<Self::Output>
         requires { IsCallerOf service.now caller }
         ensures { IsWorked service.now (tells self.now) caller result.caller result.output };
 }
 
-/// Gives each caller to the worker, all at once, and joins them: the callers, and the outputs, in order. Where a thread cannot be started
+/// Gives each caller to the worker, all at once, and joins them: the callers, and the outputs, in order. Where a thread cannot be started,
 /// the calling thread does its work. `Err` means out of memory, and drops the callers.
 pub fn work_together<O: Object + Send + Sync, R: Threads + Wait + Sync, W: Worker<O> + Sync>(
     rt: &R,
@@ -65,7 +65,7 @@ fn all_work<O: Object + Send + Sync, R: Threads + Wait + Sync, W: Worker<O> + Sy
     Ok(all)
 }
 
-/// The result of the work of each caller, on a thread of its own: result `i` is of caller `i` of the list.
+/// The result of the work of each caller, on a thread of its own where one can be started: result `i` is of caller `i` of the list.
 fn each_works<O: Object + Send + Sync, R: Threads + Wait + Sync, W: Worker<O> + Sync>(
     rt: &R,
     service: &Service<O>,

@@ -42,8 +42,8 @@ shared_there instance s law some caller l at h mine =
       loads_lead region (vol_word instance s.words h.replica) words h.loaded (λ i below. replica_at instance.callers region s.words h.replica i below) (law.regions.loaded caller l at h mine),
     )
 
--- In a lawful state what a caller `k` noted is so of the state's history: it has the words noted and what the seat has, and the accesses and loads go on from
--- full images of it.
+-- In a lawful state, what a caller noted, `k`, is true of the state's history: the history has the words noted and what the seat has, and the
+-- accesses and the loads go on from full images of the history.
 pub behind_notes : (instance : Instance) (s : State) (law : Lawful instance s) → 0 < length instance.base.words → (l : Local) (k : Known) → slice_get s.locals k.local.number ≡ Some l →
     k.local ≡ shown l → NotesHold instance law.history k.noted → IsTraced instance law.history k.accesses l →
     SetsHold instance s law.history k → OwnSetsHold instance law.history l.cells → IsBehindNotes instance k

@@ -68,7 +68,7 @@ nothing_there i ws v is = absurd (none-some v is)
 pub noted_tells : (region : ℕ) (accesses : List Note) (i v : ℕ) → i < region → word_noted None i accesses ≡ Some v → TellsWord region accesses i v
 noted_tells region accesses i v below is first now long leads = noted_there accesses i None first now (subst (λ n. i < n) (sym long) below) (nothing_there i first) leads v is
 
--- and where it is of the place, it is the place noted
+-- the word noted last at address 0 is the place noted
 pub noted_place : (accesses : List Note) (place v : ℕ) (word : Option ℕ) → ((w : ℕ) → word ≡ Some w → place ≡ w) → word_noted word 0 accesses ≡ Some v → place_noted place accesses ≡ v
 noted_place [] place v word known is = known v is
 noted_place ((s, at, u) ∷ accesses) place v word known is = noted_place accesses (cond (at == 0) u place) v (cond (at == 0) (Some u) word) (λ w e. by w (cases_eq at 0) e) is
@@ -88,7 +88,7 @@ agree_lists known n agree first now from read long long' leads leads' =
     let a = agree i small in
     noted_tells n known.accesses i a.0 small a.1 first now long leads ∙ sym (noted_tells n loads i a.0 small a.2 from read long' leads')))
 
--- so whatever fits is equal
+-- where the notes of two replicas agree on all words, whatever fits them is equal
 pub agree_equal : (lines : ℕ) (lawful : List ℕ → Type 0) (base : Base) (step : List ℕ → List ℕ → List ℕ × List ℕ) (known : Known) (n : ℕ) → n ≡ region_words lines → AgreeTo known n → AreEqual lines lawful base step known
 agree_equal lines lawful base step known n is agree first now from read fits reads =
     agree_lists known n agree first now from read (fits.fits.origin.size.long ∙ sym is) (reads.fits.origin.size.long ∙ sym is) fits.fits.leads reads.fits.leads

@@ -73,7 +73,7 @@ module _ (lines : ℕ) (lawful : List ℕ → Type 0) (instance : Instance) (law
   pub traced_fits : (accesses : List Note) (first now : List ℕ) → IsOrigin instance history first → NotesLead accesses first now → IsConsistentWith lines lawful instance.base accesses first now
   traced_fits accesses first now o leads = record { origin = full_base first (origin_full first o); from = o.from; leads = leads }
 
-  -- so it is lawful at its ticket
+  -- an entry that is noted whole is lawful at its ticket
   pub noted_lawful : (notes : List Noted) (ticket : ℕ) (e : Entry) → NotesHold instance history notes → instance.base.place ≤ ticket → IsNoted notes ticket e → IsLawfulEntry ticket e
   noted_lawful notes ticket e hold from noted =
       let linked = noted_linked instance history entries notes ticket e hold from noted in
@@ -104,7 +104,7 @@ module _ (lines : ℕ) (lawful : List ℕ → Type 0) (instance : Instance) (law
         is ∙ ap (stored (slice_index pairs 0) pairs) r.2 ∙ l.1.gives ∙ ap (full_image instance.step instance.base history) (sym at),
       )
 
-  -- so they are the full image after their place
+  -- words that entries and write sets of the history lead to from a full image are the full image after their place
   pub chain_full : (has : Has) → IsOfHistory instance history has → (first : List ℕ) → IsOrigin instance history first → (place : ℕ) (now : List ℕ) → ReplayedTo instance.step has first place now → IsFull instance history now × (place_of now ≡ place)
   chain_full has hold first origin place now chain =
       let r = chain_on has hold first (origin_full first origin) place now chain in

@@ -29,7 +29,7 @@ walk_quiet full G ticket from (line ∷ lines) last n quiet walk over under miss
       ]
     ]
 
--- so for some tickets one after another
+-- a line that the gaps of each of `count` tickets step over is the same before and after them
 stays_for : (count : ℕ) (full : ℕ → List ℕ) (G : Gap → Type 0) (lines from to : ℕ) (lists : ℕ → List ℕ) (n : ℕ) → from + count ≡ to →
     ((g : Gap) → G g → IsQuiet full g) → AreWalked G lines from to lists → n < lines → IsUnlisted from to lists n → IsSameLine n (full from) (full to)
 stays_for zero full G lines from to lists n is quiet walked below unlisted k small =

@@ -50,7 +50,7 @@ module _ (lines : ℕ) (lawful : List ℕ → Type 0) (instance : Instance) (law
         gives = ap (stored (slice_index pairs 0) pairs) (sym a.2) ∙ x.leads ∙ b.2;
       }) b.1 tells.off))
 
-  -- so it may be noted
+  -- a gap that whatever fits tells may be noted
   pub learns_gap : (s i v : ℕ) (known : Known) (word : ℕ) (pairs : List ℕ) → s < gap_slots instance.callers → i < 16 → v < 2 ^ 64 → word ≡ step_word instance (NoteGap s i v) known.local →
       TellsGap lines lawful instance.base instance.step known (gap_of instance.callers s v) pairs → LearnsBy instance (λ _. NoteGap s i v) known word (λ _. v)
   learns_gap slot i v known word pairs slot_is small fits at tells words _ locals law l of_caller shows noted traced sets own full =

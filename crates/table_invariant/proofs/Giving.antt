@@ -113,7 +113,7 @@ module _ (lines : ℕ) (lawful : List ℕ → Type 0) (instance : Instance) (law
         timed = tt;
       })
 
-  -- and turned into a shared one, at the place that was noted
+  -- an exclusive right is turned into a shared one on a full image, at the place that was noted
   pub learns_downgrade : (r : ℕ) (known : Known) (word : ℕ) → IsClean instance.callers r known.local → word ≡ step_word instance (Downgrade r) known.local → IsReplayedToPlace lines lawful instance.base instance.step known →
       LearnsBy instance (λ _. Downgrade r) known word (λ x. new_word instance (Downgrade r) known.local x)
   learns_downgrade r known word clean at replayed words _ locals law l of_caller shows noted traced sets own some =

@@ -48,7 +48,7 @@ module _ (instance : Instance) (s : State) (law : Lawful instance s) (known : Kn
   there_on lines lawful laws base traced =
       traced_on lines lawful instance laws base law.history law.tickets.below (entries_from instance s law) (has_of known) has_of_history known.accesses traced.first traced.now traced.origin traced.leads
 
--- so it is in each state of a table
+-- in each state of a table what is there fits
 pub fits_there : (lines : ℕ) (lawful : List ℕ → Type 0) (instance : Instance) → ObjectLaws lines lawful instance.step → LawfulBase lines lawful instance.base → (s : atomic.State ℕ (List Known)) (seat i : ℕ) (view : List Known) (known : Known) (l : Local)
     (rule : RuleHolds instance s) → get_elem? s.views seat ≡ some view → slice_get view i ≡ Some known → slice_get rule.locals known.local.number ≡ Some l → FitsThere lines lawful instance.base instance.step known l
 fits_there lines lawful instance laws base s seat i view known l rule at here there =

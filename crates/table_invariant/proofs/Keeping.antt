@@ -50,7 +50,7 @@ module _ (lines : ℕ) (lawful : List ℕ → Type 0) (instance : Instance) (law
       let of_ticket = set_of_ticket lines lawful instance laws base state held.law known mine.local ticket pairs mine.of_caller mine.shows mine.notes mine.traced (held.sets id 0 (known ∷ []) known view refl) (held.own known.local.number mine.local mine.of_caller) tells in
       subst (λ (y : KeptSet). (y.ticket < instance.base.place + length held.law.history) × IsWriteSetOf instance held.law.history y.ticket y.set) is of_ticket
 
-  -- and so are those kept before
+  -- each set kept, also before, is one of its ticket
   kept_holds : KeptHolds instance held.law.history after.kept
   kept_holds t x has = elim (slice_get-append known.kept (kept ∷ []) has.0 _ has.1) [
     | inl old ↦ (held.sets id 0 (known ∷ []) known view refl).kept t x (has.0, old)
@@ -95,7 +95,7 @@ module _ (lines : ℕ) (lawful : List ℕ → Type 0) (instance : Instance) (law
     some = held.some;
   }
 
-  -- and so once a word was found and left
+  -- the rule holds with the set kept, once a word was found and left as it is
   pub kept_held : (word : ℕ) → RuleHolds instance (atomic.stepped s word (slice_index s.words word) id [] (after ∷ []) atomic.keeps)
   kept_held word = subst (λ ws. RuleHolds instance (record { words = ws; homes = s.homes; views = views' })) (sym (set-get_or s.words word 0)) kept_here
 

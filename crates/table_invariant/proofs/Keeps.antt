@@ -161,7 +161,7 @@ event_recorded instance kind s id known after word new held at learns =
       refl,
     )
 
--- so the rule holds
+-- an event keeps the rule where it teaches its caller's seat what the seat then knows
 pub event_held : (instance : Instance) (kind : Kind) (s : atomic.State ℕ (List Known)) (id : ℕ) (known after : Known) (word new : ℕ) → RuleHolds instance s → get_elem? s.views id ≡ some (known ∷ []) →
     LearnsInAnyState instance s.words kind known word new after → RuleHolds instance (atomic.stepped s word new id [] (after ∷ []) atomic.keeps)
 event_held instance kind s id known after word new held at learns = (event_recorded instance kind s id known after word new held at learns).0
@@ -209,7 +209,7 @@ timed_shown : (kind : Kind) → IsByShown kind → IsTimed kind
 timed_shown (Raise code read) by = by
 timed_shown kind by = tt
 
--- and where they are known in each state, it does so in each
+-- where what a step needs is seen in each lawful state that its caller's seat may stand before, the step teaches what the caller then knows in each
 pub learns_of : (instance : Instance) (kind : Kind) (known : Known) (words : List ℕ) (word new : ℕ) → WordFits kind → word ≡ step_word instance kind known.local →
     ((locals : List Local) (law : Lawful instance (record { words = words; locals = locals })) (l : Local) → slice_get locals known.local.number ≡ Some l → known.local ≡ shown l → NotesHold instance law.history known.noted →
     IsTraced instance law.history known.accesses l → Sees instance (scene_of instance (record { words = words; locals = locals })) kind known l new (slice_index words word)) →
@@ -287,7 +287,7 @@ event_image instance kind s id known after word new held view learns image adds 
     let last : slice_get after.images (length known.images) ≡ Some image = ap (λ xs. slice_get xs (length known.images)) adds ∙ slice_get-last known.images image in
     record { history = then.law.history; small = then.law.tickets.below; entries = entries_from instance _ then.law; origin = then.images id 0 (after ∷ []) after there refl (length known.images) image last }
 
--- what it teaches
+-- what an event that is learned teaches its caller's seat
 pub event_teaches : (instance : Instance) (kind : Kind) (s : atomic.State ℕ (List Known)) (id : ℕ) (known : Known) (word new : ℕ) → RuleHolds instance s → get_elem? s.views id ≡ some (known ∷ []) →
     LearnsInAnyState instance s.words kind known word new (known_after instance kind known (slice_index s.words word)) →
     KnowledgeAfter instance kind known (slice_index s.words word) (known_after instance kind known (slice_index s.words word) ∷ [], [])

@@ -67,7 +67,7 @@ answered_adds olds news answers ts n m same given (inl none) =
 answered_adds olds news answers ts n m same given (inr one) =
     inr (ap (λ (xs : List Answer). length (olds ++ xs)) one.1 ∙ length-append olds (one.0 ∷ []), ap (λ (xs : List Answer). ts ++ map (λ (_ : Answer). n) xs) (given ∙ one.1) ∙ ap (λ k. ts ++ k ∷ []) same)
 
--- its time, and that of a read that it answers
+-- a raise adds the time of the answer to an entry, and that of a read that it answers, to the caller's times
 raise_adds : (instance : Instance) (scene : Scene) (code : ℕ) (known : Known) (l : Local) → known.local ≡ shown l → (answers : List Answer) → answers ≡ answers_below instance scene.history (root_place_of instance.callers code) (unanswered l) →
     (count : ℕ) (read : Option (List ℕ × List ℕ)) → CanRaise instance code (read_op_in read) known.local →
     AddTimes instance.callers l (raised_by instance scene code (read_op_in read) l) known.times (times_raised answers (read_at (root_place_of instance.callers code) count read) known)

@@ -120,7 +120,7 @@ module _ (lines : ℕ) (lawful : List ℕ → Type 0) (instance : Instance) (law
       object_part (full place) ≡ image_after instance.step (object_part instance.base.words) (take (place - instance.base.place) history)
   object_of_full place from to = object_on (place - instance.base.place) place (omega (arith, from)) (omega (arith, from, to))
 
-  -- so the object's reply to an operation on it is the history's at the place
+  -- the object's reply to an operation on a full image is the history's at the image's place
   pub reply_of_full : (place : ℕ) (op : List ℕ) → instance.base.place ≤ place → place ≤ instance.base.place + length history → (instance.step (object_part (full place)) op).1 ≡ reply_after instance history place op
   reply_of_full place op from to = ap (λ image. (instance.step image op).1) (object_of_full place from to)
 

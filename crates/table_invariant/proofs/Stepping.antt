@@ -47,7 +47,7 @@ on_one s t is = omega (arith, is)
 pub on_then : (s t u : Seated) → StepsOn s t → StepsOn t u → StepsOn s u
 on_then s t u one two = omega (arith, one, two)
 
--- and then one step more
+-- where no step is taken back from `s` to `t`, and one more is counted at `u` than at `t`, none is taken back from `s` to `u`
 pub on_then_one : (s t u : Seated) → StepsOn s t → u.known.local.steps ≡ one_more t.known.local.steps → StepsOn s u
 on_then_one s t u was is = on_then s t u was (on_one t u is)
 

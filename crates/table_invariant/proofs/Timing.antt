@@ -60,7 +60,7 @@ module _ (instance : Instance) (from : State) (events : List Event) where
   durable_longer : (more : List Event) (caller place steps : ℕ) → DurableAt instance from events caller place steps → DurableAt instance from (events ++ more) caller place steps
   durable_longer more caller place steps at = record { by = by_longer more caller steps at.by; last = at.last; durable = at.durable }
 
-  -- so the times of a caller that made none of the further steps stay
+  -- the times of a caller that made none of the further steps of a longer run stay
   pub times_longer : (more : List Event) (caller : ℕ) (l : Local) (t : Times) → AreTimes instance from events caller l t → AreTimes instance from (events ++ more) caller l t
   times_longer more caller l t are = record {
     all_linked = are.all_linked;
@@ -82,11 +82,11 @@ module _ (instance : Instance) (from : State) (events : List Event) where
     abbrev now_on : List Event
     now_on = events ++ event ∷ []
 
-    -- it is made at this moment
+    -- the moment at which the caller's step is made
     abbrev at_step : ComesBy instance from now_on caller x.steps
     at_step = record { before = events; after = event ∷ []; are = refl; moment = state; run = run; local = x; of_caller = here; count = refl }
 
-    -- and behind it is that one
+    -- the moment right after the caller's step
     abbrev behind_step : ComesBy instance from now_on caller x'.steps
     behind_step = record { before = now_on; after = []; are = sym (append-nil now_on); moment = state'; run = run'; local = x'; of_caller = here'; count = refl }
 

@@ -76,7 +76,7 @@ pub images_longer : (instance : Instance) (history history' : List Entry) (image
     AreImages instance history images → AreImages instance history' images
 images_longer instance history history' images grows are = λ i words at. origin_longer instance history history' words grows (are i words at)
 
--- and with one more they are too
+-- the images that were taken, and one more that is added, are those of a longer history
 pub images_added : (instance : Instance) (history history' : List Entry) (images images' : List (List ℕ)) → ((ticket : ℕ) (entry : Entry) → IsLinked instance.base.place history ticket entry → IsLinked instance.base.place history' ticket entry) →
     AreImages instance history' images → AddsImage instance history images images' → AreImages instance history' images'
 images_added instance history history' images images' grows are (inl same) = subst (AreImages instance history') (sym same) are

@@ -153,10 +153,12 @@ abbrev pub AreEqual : ℕ → (List ℕ → Type 0) → Base → (List ℕ → L
 AreEqual lines lawful base step known =
     (first now from read : List ℕ) → FitsKnown lines lawful base step known first now → ReadFits lines lawful base (loaded_of known.local.shared) from read → now ≡ read
 
--- for every pair that fits what a seat knows, what it has leads from the first list to the second
+-- whatever pair of lists fits what a seat knows, the entries and the write sets that the seat has lead from the first list to the second
+-- (`ReplayedTo`)
 abbrev pub IsReplayed : ℕ → (List ℕ → Type 0) → Base → (List ℕ → List ℕ → List ℕ × List ℕ) → Known → Type 0
 IsReplayed lines lawful base step known = (first now : List ℕ) → FitsKnown lines lawful base step known first now → (place : ℕ) × ReplayedTo step (has_of known) first place now
 
--- for every pair that fits what a seat knows, what it has leads from the first list to the second, at the place that was last loaded or stored
+-- Whatever pair of lists fits what a seat knows, the entries and the write sets that the seat has lead from the first list to the second
+-- (`ReplayedTo`), and the second is at the place that was last loaded or stored.
 abbrev pub IsReplayedToPlace : ℕ → (List ℕ → Type 0) → Base → (List ℕ → List ℕ → List ℕ × List ℕ) → Known → Type 0
 IsReplayedToPlace lines lawful base step known = (first now : List ℕ) → FitsKnown lines lawful base step known first now → ReplayedTo step (has_of known) first (place_noted 0 known.accesses) now

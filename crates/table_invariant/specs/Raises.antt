@@ -93,8 +93,8 @@ abbrev pub IsRaiseLearned : Instance → ℕ → List Answer → Option (List �
 IsRaiseLearned instance code answers read known word =
     (words : List ℕ) → LearnsInAnyState instance words (Raise code (read_op_in read)) known word (max (slice_index words word) code) (known_answered instance code answers read known)
 
--- what it teaches: what the caller then knows, what the lawful state says of its local state by itself, before and after, and what
--- is behind the notes
+-- what a raise teaches: what the caller then knows, what the lawful state says of the caller's local state by itself, before and after, and what is
+-- behind the notes
 pub record TeachesRaised (instance : Instance) (code : ℕ) (answers : List Answer) (read : Option (List ℕ × List ℕ)) (known : Known) (after : Me ℕ (List Known)) : Type 0 where
   pub knows : after ≡ (known_answered instance code answers read known ∷ [], [])
   pub lawful : IsLawfulLocal instance known.local

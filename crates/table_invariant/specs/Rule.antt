@@ -150,7 +150,8 @@ pub record SetsHold (instance : Instance) (s : State) (history : List Entry) (kn
   pub noted : SetNotesHold instance s history known.sets
   pub kept : KeptHolds instance history known.kept
 
--- The rule of the table: there are local states, one a caller, which are lawful with the words of the table, and of which each seat knows what stands here.
+-- The rule of the table: there are local states, one a caller, which are lawful together with the words of the table; and what each seat knows is
+-- true of them, as the fields say.
 pub record RuleHolds (instance : Instance) (s : atomic.State ℕ (List Known)) : Type 0 where
   pub locals : List Local
   -- the seat, and the place in its view, that have a caller's local state
@@ -158,12 +159,12 @@ pub record RuleHolds (instance : Instance) (s : atomic.State ℕ (List Known)) :
   pub law : Lawful instance (record { words = s.words; locals = locals })
   pub reached : IsReached instance s.words locals
   pub each : (seat i : ℕ) (view : List Known) (known : Known) → get_elem? s.views seat ≡ some view → slice_get view i ≡ Some known → IsKnown instance law.history locals place_of seat i known
-  -- when operations began and were answered is so
+  -- the times at which operations began and were answered are those of a run that led here
   pub times : (seat i : ℕ) (view : List Known) (known : Known) → get_elem? s.views seat ≡ some view → slice_get view i ≡ Some known →
       AreTimes instance (opening_limited instance reached.limits) reached.events known.local.number known.local known.times
-  -- and the images that were taken are the history's
+  -- the images that were taken are the history's
   pub images : (seat i : ℕ) (view : List Known) (known : Known) → get_elem? s.views seat ≡ some view → slice_get view i ≡ Some known → AreImages instance law.history known.images
-  -- each cell that is offered with the ticket that it still has has a write set of it
+  -- each cell that is offered with the ticket that the cell still has holds a write set of that ticket
   pub own : EachLocal locals (λ _ l. OwnSetsHold instance law.history l.cells)
   -- what is known of write sets is so
   pub sets : (seat i : ℕ) (view : List Known) (known : Known) → get_elem? s.views seat ≡ some view → slice_get view i ≡ Some known → SetsHold instance (record { words = s.words; locals = locals }) law.history known

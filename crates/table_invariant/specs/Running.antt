@@ -8,7 +8,7 @@ use Rattle.cx_core.specs.Region.{slot_number}
 use Rattle.cx_core.specs.State.{Instance}
 use Rattle.table_invariant.specs.Seats.{Seated, StepsBy, StepsOn}
 
--- which table it is, how many callers it has, the lines of its object, the base that it was made with, and the object
+-- a running table: which table it is, how many callers it has, the lines of its object, the base that it was made with, and the object
 pub record Running (O : Type 0) : Type 0 where
   pub table : TableId
   pub callers : ℕ

@@ -30,9 +30,9 @@ use Rattle.table_invariant.specs.declared.rule.Times.{Times}
 abbrev pub unseen : Scene
 unseen = record { history = []; words = [] }
 
--- Those are the kinds whose guard, whose word put and whose shown local state afterwards look at no word of a region. To release
--- an exclusive right its words have to be a full image, what is persisted is one of them, a load that is marked as a
--- refusal found another place, and what a raise answers is the history's.
+-- The kinds whose guard, whose word put and whose shown local state afterwards look at no word of a region and not at the history. The others look at
+-- these: to release an exclusive right its words have to be a full image, what is persisted is one of them, a load that is marked as a refusal found
+-- another place, what a raise answers is the history's, and so are a set that is offered and a gap that is noted.
 abbrev pub IsByShown : Kind → Type 0
 IsByShown (Downgrade r) = ⊥
 IsByShown (ReleaseExclusive r) = ⊥

@@ -87,7 +87,7 @@ pub record AddTimes (callers : ℕ) (l l' : Local) (t t' : Times) : Type 0 where
       ⊎ ((t'.loaded ≡ l.steps) × (t'.seen ≡ true) × (l.fresh ≡ false) × (l'.fresh ≡ true))
   pub images : (t'.images ≡ t.images) ⊎ ((x : ImageTimes) × (t'.images ≡ t.images ++ x ∷ []) × IsImageTaken callers l l' t x)
 
--- An entry was linked when its caller had made at least this number of steps: the list of counts has one more. A count stays at the end of its type.
+-- An entry was linked when its caller had made at least this number of steps, or 2^64 - 1, at which a count stays: the list of counts has one more.
 pub record BeginsIn (first : ℕ) (old new : List ℕ) : Type 0 where
   pub at : ℕ
   pub from : min first max_word ≤ at
@@ -99,8 +99,8 @@ pub record EndsIn (last : ℕ) (old new : List ℕ) : Type 0 where
   pub to : at ≤ last
   pub is : new ≡ old ++ at ∷ []
 
--- A read was answered, which began when its caller had made at least the first number of steps, and ended when it had made at most the last: the list of
--- both counts has one more.
+-- A read was answered, which began when its caller had made at least the first number of steps, or 2^64 - 1, at which a count stays, and ended when
+-- the caller had made at most the last number: the list of both counts has one more.
 pub record ReadsIn (first last : ℕ) (old new : List (ℕ × ℕ)) : Type 0 where
   pub begun : ℕ
   pub ended : ℕ
