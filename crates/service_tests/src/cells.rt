@@ -37,8 +37,8 @@ const PARTS: [Part; 3] = [
     ),
 ];
 
-/// The note that caller 0 is given where caller 1 keeps its cells.
-pub(crate) const KEPT: FullNote = FullNote {
+// The note that caller 0 is given where caller 1 keeps its cells.
+const KEPT: FullNote = FullNote {
     holder: 1,
     need: 0,
     ticket: 1,
@@ -54,8 +54,8 @@ fn are_answered(log: &[Call]) -> bool {
     true
 }
 
-// Whether the last call of caller 0 found its cells kept by caller 1. `Some(false)`: it linked its entry. `None`: it came to something else, an earlier
-// update was not answered, or caller 1 keeps the cells and was not stopped.
+// Whether the last call of caller 0 found its cells kept by caller 1. `Some(false)`: it linked its entry at ticket 16, or at 17 behind the
+// entry of caller 1. `None`: it came to something else, an earlier update was not answered, or caller 1 keeps the cells and was not stopped.
 fn is_full(log: &[Call]) -> Option<bool> {
     let (first, rest) = log.split_first()?;
     let (last, sixteen) = rest.split_last()?;
@@ -63,7 +63,7 @@ fn is_full(log: &[Call]) -> Option<bool> {
         return None;
     }
     match last.came {
-        Came::Linked(_) => Some(false),
+        Came::Linked(16..18) => Some(false),
         Came::Full(note) if note == KEPT && is_stopped(first) => Some(true),
         _ => None,
     }

@@ -1,12 +1,13 @@
 //! A service that starts from an image which was taken of another service.
 
-ghost use Rattle.std.specs.Prelude.{◌≡◌, [], ◌∷◌, IfSome};
+ghost use Rattle.std.specs.Prelude.{IfSome};
 ghost use Rattle.cx_base.specs.Tally.{IsTally};
 ghost use Rattle.cx_core.specs.Base.{LawfulBase};
 ghost use Rattle.cx_service.specs.Callers.{IsCallerOf};
 
 use crate::checkpoints_alone::WORDS;
 use crate::holds::holds;
+use crate::starts::one_started;
 use cx_base::tally::Tally;
 use cx_base::{Items, OP_WORDS};
 use cx_core::Base;
@@ -14,8 +15,6 @@ use cx_service::{Caller, Checkpointed, Driven, Service, Submitted};
 use recovery::{Outcome, outcome};
 use std::alloc::Global;
 use std::test::Fail;
-
-const NO_LIMIT: u64 = u64::MAX;
 
 // A caller adds an amount: the sum then. `None`: it was not linked, or not answered.
 fn added(service: &Service<Tally>, caller: Caller, amount: u64) -> Option<(Caller, u64)>
@@ -51,40 +50,14 @@ fn taken(alloc: Global, service: &Service<Tally>, caller: Caller) -> Option<Base
     }
 }
 
-// A service of one caller.
-fn started(alloc: Global, base: &Base) -> Option<(Service<Tally>, Caller)>
-    requires { LawfulBase 64 IsTally base.now }
-    ensures { IfSome result (λ r. IsCallerOf r.0 r.1) }
-{
-    let Ok((service, callers)) = Service::start(alloc, Tally, 1, &[NO_LIMIT], base) else {
-        return None;
-    };
-    match one(callers) {
-        Some(caller) => Some((service, caller)),
-        None => None,
-    }
-}
-
-// The only caller of a list. `None` where the list has none, or more than one.
-fn one(mut callers: Vec<Caller>) -> Option<Caller>
-    ensures { IfSome result (λ c. callers.items ≡ c ∷ []) }
-{
-    let caller = callers.pop()?;
-    if callers.is_empty() {
-        Some(caller)
-    } else {
-        None
-    }
-}
-
 // The sum in a service that starts from an image which was taken behind two updates, after one more there; and what the image says of the caller.
 fn went_on(alloc: Global) -> Option<(u64, Outcome)> {
     let base = Base::fresh(alloc, &Tally).ok()?;
-    let (service, caller) = started(alloc, &base)?;
+    let (service, caller) = one_started(alloc, Tally, &base).ok()?;
     let (caller, _) = added(&service, caller, 5)?;
     let (caller, _) = added(&service, caller, 6)?;
     let image = taken(alloc, &service, caller)?;
-    let (service, caller) = started(alloc, &image)?;
+    let (service, caller) = one_started(alloc, Tally, &image).ok()?;
     let (_, sum) = added(&service, caller, 7)?;
     Some((sum, outcome(&image, 0)))
 }

@@ -12,10 +12,8 @@ use cx_base::Object;
 use cx_base::tally::Tally;
 use cx_core::Base;
 use cx_table::Remains;
-use recovery::{
-    Image, ImageFault, closed_tables_are_whole, closed_tables_recover, crash_image, recover,
-};
-use std::alloc::{AllocError, Global};
+use recovery::{ImageFault, closed_tables_are_whole, closed_tables_recover, crash_image, recover};
+use std::alloc::Global;
 
 /// What is recovered by choice after a loss of power. It fails only where memory runs out.
 pub(crate) fn recovered(alloc: Global, remains: &Remains, choice: u64) -> Result<Base, ImageFault>
@@ -30,14 +28,6 @@ pub(crate) fn recovered(alloc: Global, remains: &Remains, choice: u64) -> Result
         return Err(ImageFault::Memory);
     };
     recover(alloc, &Tally, &image)
-}
-
-/// What a loss of power leaves by choice.
-pub(crate) fn left(alloc: Global, remains: &Remains, choice: u64) -> Result<Image, AllocError>
-    requires { IsClosedTally remains.now }
-{
-    closed_tables_are_whole::<Tally>();
-    crash_image(alloc, remains, choice)
 }
 
 /// What is recovered by choice after a loss of power of a closed service of any object.

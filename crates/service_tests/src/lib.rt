@@ -2,14 +2,12 @@
 //! object alone, by one thread.
 //!
 //! Callers run on threads and one after another; some are stopped at each step, and what a crash leaves of a service that is closed there is
-//! recovered. Images are written by hand too, also of an old version. Checkpoints that a caller takes while others go on are compared with the object
+//! recovered. An image of an old version is written by hand. Checkpoints that a caller takes while others go on are compared with the object
 //! alone at the checkpoint's place, taken at each limit of steps, and a service starts from one. The crate has tests alone.
 #![tactic(auto)]
 
 #[cfg(test)]
 mod alone;
-#[cfg(test)]
-mod applied_sets;
 #[cfg(test)]
 mod calls;
 #[cfg(test)]
@@ -27,8 +25,6 @@ mod closed;
 #[cfg(test)]
 mod holds;
 #[cfg(test)]
-mod laws;
-#[cfg(test)]
 mod listed_lines;
 #[cfg(test)]
 mod losses;
@@ -39,15 +35,9 @@ mod no_memory;
 #[cfg(test)]
 mod pairs;
 #[cfg(test)]
-mod places;
-#[cfg(test)]
 mod renewals;
 #[cfg(test)]
-mod renewed_callers;
-#[cfg(test)]
 mod reopened;
-#[cfg(test)]
-mod row_tables;
 #[cfg(test)]
 mod rows;
 #[cfg(test)]
@@ -55,11 +45,7 @@ mod starts;
 #[cfg(test)]
 mod stops;
 #[cfg(test)]
-mod submits;
-#[cfg(test)]
 mod sum_calls;
-#[cfg(test)]
-mod sum_formats;
 #[cfg(test)]
 mod tasks;
 #[cfg(test)]

@@ -1,5 +1,5 @@
-//! Entries of as many changed lines as the ring of gaps has words for, and of one more: a caller that fell behind renews its replica by the
-//! lines that changed, or whole.
+//! A caller that fell behind the ring of cells renews its replica by the lines that changed, where the ring of gaps has them, or whole: entries of as
+//! many changed lines as that ring has words for, and of one more, and callers behind by as many tickets as it has slots for, and by more.
 
 use crate::alone::{last_region, made_alone};
 use crate::calls::Call;
@@ -101,10 +101,11 @@ const ROWS: [Row; 7] = [
     },
 ];
 
-// The steps of the last call of a caller, and 0 where it made fewer than two.
+// The steps of the last call of a caller, and 0 where it made none.
 fn last_steps(log: &[Call]) -> u64 {
     match log {
         [.., before, last] => last.steps.saturating_sub(before.steps),
+        [only] => only.steps,
         _ => 0,
     }
 }
@@ -144,16 +145,26 @@ fn lines_changed(alloc: Global, work: Work) -> Result<Option<u64>, AllocError> {
     Ok(apart(&before.remains, &after.remains))
 }
 
+// Whether caller 1 copies all lines in its last call, or not all, as `is_whole` says, and all is as the object alone has it.
+fn is_copied(
+    alloc: Global,
+    work: Work,
+    turns: &[Turn],
+    is_whole: bool,
+) -> Result<bool, AllocError> {
+    let ended = run_pair(alloc, DocStore::of(LINES), NO_LIMIT, work, turns)?;
+    Ok(match steps_alone(alloc, &ended, work)? {
+        Some(steps) => (steps >= WHOLE) == is_whole,
+        None => false,
+    })
+}
+
 // Whether the updates of a row change as many lines as the row says, and the last copy of caller 1 is whole where the row says so and by lines elsewhere.
 fn is_right(alloc: Global, row: &Row) -> Result<bool, AllocError> {
     if lines_changed(alloc, row.work)? != Some(row.lines) {
         return Ok(false);
     }
-    let ended = run_pair(alloc, DocStore::of(LINES), NO_LIMIT, row.work, row.turns)?;
-    Ok(match steps_alone(alloc, &ended, row.work)? {
-        Some(steps) => (steps >= WHOLE) == row.is_whole,
-        None => false,
-    })
+    is_copied(alloc, row.work, row.turns, row.is_whole)
 }
 
 // The first row whose updates change another number of lines, or whose last copy is not as the row says.
@@ -169,5 +180,37 @@ fn first_wrong(alloc: Global, rows: &[Row]) -> Result<Option<usize>, AllocError>
 #[test]
 fn entries_of_fifteen_lines_are_listed_and_of_sixteen_are_not(rt: HostRuntime) -> Result<(), Fail> {
     holds(&rt, first_wrong(rt.alloc(), &ROWS)?.is_none());
+    Ok(())
+}
+
+// Each update changes the header, a node and a block or two, and its caller's number.
+const SMALL: Work = Work::Blocks { count: 1, wider: 1 };
+
+// How many updates caller 0 makes before the first update of caller 1, and whether caller 1 copies all lines then.
+const COUNTS: [(u64, bool); 6] = [
+    // the ring of cells has the entries, and nothing is copied
+    (1, false),
+    (16, false),
+    // the ring of gaps has a slot for each ticket
+    (64, false),
+    (1024, false),
+    // it has none for the first of them
+    (1025, true),
+    (2000, true),
+];
+
+// The first row whose copy is not as the row says.
+fn first_wrong_count(alloc: Global, rows: &[(u64, bool)]) -> Result<Option<usize>, AllocError> {
+    for (i, (count, is_whole)) in rows.iter().enumerate() {
+        if !is_copied(alloc, SMALL, &[(0, *count), (1, 1)], *is_whole)? {
+            return Ok(Some(i));
+        }
+    }
+    Ok(None)
+}
+
+#[test]
+fn callers_behind_the_ring_of_gaps_copy_all(rt: HostRuntime) -> Result<(), Fail> {
+    holds(&rt, first_wrong_count(rt.alloc(), &COUNTS)?.is_none());
     Ok(())
 }

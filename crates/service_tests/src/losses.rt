@@ -1,24 +1,21 @@
 //! A caller stops at each step of an update, and what was answered is recovered.
 
 ghost use Rattle.std.specs.Prelude.{◌≤◌, IfOk};
-ghost use Rattle.cx_base.specs.Tally.{IsTally};
-ghost use Rattle.cx_core.specs.Base.{LawfulBase};
 ghost use Rattle.service_tests.specs.Closed.{IsClosedTally};
 
 use crate::calls::{Call, UPDATE};
-use crate::closed::{left, recovered};
+use crate::closed::recovered;
 use crate::holds::holds;
 use crate::starts::NO_LIMIT;
-use crate::sum_calls::{Outcome, Part, played, played_from};
+use crate::sum_calls::{Outcome, Part, played};
 use crate::tasks::Work;
 use cx_core::{Base, OBJECT_START};
 use cx_table::Remains;
-use recovery::Image;
 use std::alloc::{AllocError, Global};
 use std::test::Fail;
 
 // What the loss of power leaves of a dirty word: its durable value by choice 0, its volatile value by choice 1, and by another choice a value that is
-// computed from the choice and the word's address, as in `word_left`.
+// computed from the choice and the word's address.
 const CHOICES: [u64; 5] = [0, 1, 2, 3, 0x9e37_79b9_7f4a_7c15];
 
 // Caller 1 makes an update that adds 1, whereupon caller 0 comes with a limit of steps and an update that adds 1000.
@@ -175,162 +172,5 @@ fn is_answered_at(alloc: Global, limit: u64) -> Result<bool, AllocError> {
 fn published_updates_may_be_kept_and_answered_ones_are(rt: HostRuntime) -> Result<(), Fail> {
     holds(&rt, are_parted(rt.alloc())?);
     holds(&rt, is_answered_at(rt.alloc(), ANSWERED)?);
-    Ok(())
-}
-
-// Puts the word of each pair of an image at its place in `words`. Returns whether each place is within `words`, and no word is 0.
-fn laid_out(image: &Image, words: &mut [u64]) -> bool {
-    for (at, word) in image.pairs.as_slice() {
-        if *word == 0 || !is_put(words, *at as usize, *word) {
-            return false;
-        }
-    }
-    true
-}
-
-// Puts a word at a place. Returns whether the place is within `words`.
-fn is_put(words: &mut [u64], at: usize, word: u64) -> bool {
-    match words.get_mut(at) {
-        Some(place) => {
-            *place = word;
-            true
-        }
-        None => false,
-    }
-}
-
-// The word at `at` that a loss of power leaves by a choice: the durable one where it is not dirty or the choice is 0, the volatile one by choice 1, and by
-// another choice the product of the choice and the address plus 1, which wraps.
-fn word_left(remains: &Remains, choice: u64, at: usize) -> u64 {
-    let durable = remains.durable.get(at).copied().unwrap_or(0);
-    if remains.dirty.get(at).copied() != Some(true) || choice == 0 {
-        return durable;
-    }
-    if choice == 1 {
-        return remains.volatile.get(at).copied().unwrap_or(0);
-    }
-    choice.wrapping_mul(at as u64).wrapping_add(choice)
-}
-
-// Whether each word is the one that a loss of power leaves by a choice.
-fn are_left(remains: &Remains, choice: u64, words: &[u64]) -> bool {
-    for (at, word) in words.iter().enumerate() {
-        if *word != word_left(remains, choice, at) {
-            return false;
-        }
-    }
-    true
-}
-
-// Whether an image has each word as the choice leaves it, and none of its pairs is 0.
-fn is_left(
-    alloc: Global,
-    remains: &Remains,
-    choice: u64,
-    image: &Image,
-) -> Result<bool, AllocError> {
-    let mut words = Vec::from_elem(alloc, 0u64, remains.durable.len())?;
-    Ok(laid_out(image, &mut words) && are_left(remains, choice, &words))
-}
-
-// Whether the image that a loss of power leaves by a choice is of two callers and 64 lines, with the words that the choice leaves.
-fn is_left_by(alloc: Global, remains: &Remains, choice: u64) -> Result<bool, AllocError>
-    requires { IsClosedTally remains.now }
-{
-    let image = left(alloc, remains, choice)?;
-    if image.callers != 2 || image.lines != 64 || image.count != 6720 {
-        return Ok(false);
-    }
-    is_left(alloc, remains, choice, &image)
-}
-
-// Whether each choice leaves its image at a limit, and whether a word is dirty.
-fn left_at(alloc: Global, limit: u64) -> Result<(bool, bool), AllocError> {
-    let stopped = stopped(alloc, limit)?;
-    for choice in CHOICES {
-        if !is_left_by(alloc, &stopped.remains, choice)? {
-            return Ok((false, false));
-        }
-    }
-    Ok((true, stopped.remains.dirty.contains(&true)))
-}
-
-// Whether at each limit from the link of caller 0's update on each choice leaves its image, and at one of the limits a word is dirty.
-fn are_left_by_choice(alloc: Global) -> Result<bool, AllocError> {
-    let mut dirty = false;
-    for limit in LINKED..200 {
-        let (left, is_dirty) = left_at(alloc, limit)?;
-        if !left {
-            return Ok(false);
-        }
-        dirty = dirty || is_dirty;
-    }
-    Ok(dirty)
-}
-
-#[test]
-fn dirty_words_are_left_by_choice(rt: HostRuntime) -> Result<(), Fail> {
-    holds(&rt, are_left_by_choice(rt.alloc())?);
-    Ok(())
-}
-
-// Caller 0 of the next service makes an update that adds 5.
-const NEXT: [Part; 1] = [(
-    0,
-    Work::Adds {
-        amount: 5,
-        count: 1,
-    },
-    UPDATE,
-)];
-
-// Whether a service that opens from a base answers its first update at the base's place.
-fn goes_on(alloc: Global, base: &Base) -> Result<bool, AllocError>
-    requires { LawfulBase 64 IsTally base.now }
-{
-    let played = played_from(alloc, base, &[NO_LIMIT, NO_LIMIT], &NEXT)?;
-    Ok(match played.log.first() {
-        Some(call) => call.is_updated(base.place),
-        None => false,
-    })
-}
-
-// Whether a service goes on from what is recovered by a choice.
-fn goes_on_by(alloc: Global, remains: &Remains, choice: u64) -> Result<bool, AllocError>
-    requires { IsClosedTally remains.now }
-{
-    match recovered(alloc, remains, choice) {
-        Ok(again) => goes_on(alloc, &again),
-        Err(_) => Ok(false),
-    }
-}
-
-// Whether by each choice a service goes on from what is recovered, where caller 0 had this limit of steps.
-fn goes_on_at(alloc: Global, limit: u64) -> Result<bool, AllocError> {
-    let stopped = stopped(alloc, limit)?;
-    for choice in CHOICES {
-        if !goes_on_by(alloc, &stopped.remains, choice)? {
-            return Ok(false);
-        }
-    }
-    Ok(true)
-}
-
-// The first limit of caller 0 at which a service does not go on from what is recovered by some choice.
-fn first_wrong(alloc: Global, limits: &[u64]) -> Result<Option<u64>, AllocError> {
-    for limit in limits {
-        if !goes_on_at(alloc, *limit)? {
-            return Ok(Some(*limit));
-        }
-    }
-    Ok(None)
-}
-
-// Limits of steps of caller 0: no step, one step fewer than its update is linked with, just so many, some more, and more than the whole update takes.
-const LIMITS: [u64; 5] = [0, 147, 148, 160, 2000];
-
-#[test]
-fn a_service_goes_on_from_what_is_recovered(rt: HostRuntime) -> Result<(), Fail> {
-    holds(&rt, first_wrong(rt.alloc(), &LIMITS)?.is_none());
     Ok(())
 }

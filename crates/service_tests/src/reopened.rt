@@ -17,20 +17,6 @@ use recovery::{Outcome, outcome, reopen};
 use std::alloc::{AllocError, Global};
 use std::test::Fail;
 
-// A medium of one caller and an object of 64 lines: two regions of 210 lines, with the words of `pairs` at their places, and 0 elsewhere.
-fn medium_of(alloc: Global, pairs: &[(u64, u64)]) -> Result<Medium, AllocError>
-    ensures { IfOk result (HasReplicas 1 64) }
-{
-    let mut words = vec![in alloc; 0; 3360]?;
-    for (at, word) in pairs {
-        if *at < 3360 {
-            words[*at as usize] = *word;
-        }
-    }
-    let medium = Medium::of(alloc, words)?;
-    Ok(medium)
-}
-
 // The region that the root names.
 #[derive(Clone, Copy)]
 enum Root {
@@ -83,33 +69,8 @@ fn is_level(medium: &Medium, root: Root) -> bool
     true
 }
 
-// Address and word: the second region is at place 1, and its store has the document 1 under the key a. The first region is empty.
-const DOCUMENT: [(u64, u64); 14] = [
-    (1680, 1),
-    (1688, 1),
-    (1689, 1),
-    (2848, 1),
-    (2849, 1),
-    (2851, 4),
-    (2853, 1),
-    (2858, 1),
-    (2859, 2),
-    (2860, 1),
-    (2861, 3),
-    (2862, 1),
-    (2865, 97),
-    (2873, 49),
-];
-
-#[test]
-fn regions_become_the_roots(rt: HostRuntime) -> Result<(), Fail> {
-    let mut medium = medium_of(rt.alloc(), &DOCUMENT)?;
-    reopen_one(&mut medium, 3);
-    holds(&rt, is_level(&medium, Root::Second));
-    Ok(())
-}
-
-// Words of no meaning, of which the lines 0, 5, 10 .. of the first region are those of the second, and one word in three elsewhere.
+// A medium of one caller and an object of 64 lines: two regions of 210 lines. Its words have no meaning; the lines 0, 5, 10 .. of the first region are
+// those of the second, and of the other words one in three.
 fn scattered(alloc: Global) -> Result<Medium, AllocError>
     ensures { IfOk result (HasReplicas 1 64) }
 {

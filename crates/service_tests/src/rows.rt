@@ -1,13 +1,10 @@
-//! Worked rows: a reader that stops, callers alone up to the end of tickets, and services that do not start.
+//! Worked rows: a reader that stops, and callers alone up to the end of tickets.
 
 use crate::calls::{Call, Came, READ, SUBMIT, UPDATE, Way};
 use crate::holds::holds;
-use crate::starts::{NO_LIMIT, all_started};
+use crate::starts::NO_LIMIT;
 use crate::sum_calls::{Part, adds_up, played, played_alone};
 use crate::tasks::{Work, adds};
-use cx_base::tally::Tally;
-use cx_service::StartFault;
-use doc_store::DocStore;
 use std::alloc::{AllocError, Global};
 use std::test::Fail;
 
@@ -130,14 +127,4 @@ fn first_wrong(
 fn a_caller_alone_is_never_full(rt: HostRuntime) -> Result<(), Fail> {
     holds(&rt, first_wrong(rt.alloc(), &ALONE)?.is_none());
     Ok(())
-}
-
-#[test]
-fn services_that_do_not_start(rt: HostRuntime) {
-    let none = all_started(rt.alloc(), Tally, 0).err();
-    holds(&rt, none == Some(StartFault::Callers { found: 0 }));
-    let nine = all_started(rt.alloc(), Tally, 9).err();
-    holds(&rt, nine == Some(StartFault::Callers { found: 9 }));
-    let small = all_started(rt.alloc(), DocStore::of(63), 1).err();
-    holds(&rt, small == Some(StartFault::Lines { found: 63 }));
 }
