@@ -1,15 +1,15 @@
-//! The worked rows of codes and packing, and the object Tally over two memories.
+//! The worked row of codes, the object Tally over two memories, words put over a memory's, and texts that are read and written by chunks.
 
 ghost use Rattle.std.specs.Prelude.{◌≡◌, ◌<◌, ◌≤◌, IfOk, IsTrue, length, replicate, slice_index};
 ghost use Rattle.cx_base.specs.Memory.{Always};
-ghost use Rattle.cx_base.specs.Tally.{IsTally, tally_opening, tally_step};
+ghost use Rattle.cx_base.specs.Tally.{IsTally, tally_opening};
 
 use crate::holds::{all_hold, holds, holds_with_memory};
 use crate::noted::Noted;
 use cx_base::tally::Tally;
 use cx_base::{
     Halt, Memory, Object, Sink, Source, VecMemory, VecSink, VecSource, link_cell, link_code,
-    link_ticket, load_below, pack, root_code, root_place, root_replica, store_words, unpack,
+    link_ticket, load_below, root_code, root_place, root_replica, store_words,
 };
 use std::alloc::{AllocError, Global};
 
@@ -23,63 +23,6 @@ fn codes_of_the_worked_row(rt: HostRuntime) {
     holds(&rt, link_cell(2, 1062) == 5);
     holds(&rt, root_code(8, 1 << 40, 15) == 17592186044431);
     holds(&rt, link_code(1, 0, 0) == 1);
-}
-
-// Whether bytes packed into three words, which were 5 before, give the words `wanted`.
-fn are_packed(bytes: &[u8], wanted: &[u64; 3]) -> bool
-    requires { length bytes.now ≤ 24 }
-{
-    let mut words = [5; 3];
-    pack(bytes, &mut words);
-    words == *wanted
-}
-
-// Whether the first nine bytes unpacked from two words are those of `wanted`.
-fn are_unpacked(words: &[u64; 2], wanted: &[u8; 9]) -> bool {
-    let mut bytes = [1; 9];
-    unpack(words, &mut bytes);
-    bytes == *wanted
-}
-
-// Whether `len` bytes, up to 1,024, come back when they are packed and unpacked, with zeros behind them. Each byte differs from its
-// neighbours.
-fn come_back(len: usize) -> bool {
-    if len > 1024 {
-        return false;
-    }
-    let mut bytes = [0; 1024];
-    for i in 0..len {
-        bytes[i] = (i % 251) as u8;
-    }
-    let mut words = [u64::MAX; 128];
-    pack(&bytes[..len], &mut words);
-    let mut back = [255; 1024];
-    unpack(&words, &mut back);
-    back == bytes
-}
-
-// The first length whose bytes do not come back.
-fn first_other_length(lengths: &[usize]) -> Option<usize> {
-    for len in lengths {
-        if !come_back(*len) {
-            return Some(*len);
-        }
-    }
-    None
-}
-
-// The bytes of one word, and one more.
-const NINE: [u8; 9] = [1, 2, 3, 4, 5, 6, 7, 8, 9];
-
-// Lengths in bytes: none and one, about the 8 of a word and the 56 of seven words, and the most that 128 words hold.
-const LENGTHS: [usize; 8] = [0, 1, 7, 8, 9, 56, 57, 1024];
-
-#[test]
-fn bytes_are_packed(rt: HostRuntime) {
-    holds(&rt, are_packed(&NINE, &[0x0807_0605_0403_0201, 9, 0]));
-    holds(&rt, are_packed(&[255; 8], &[u64::MAX, 0, 0]));
-    holds(&rt, are_unpacked(&[0x0807_0605_0403_0201, 0xff09], &NINE));
-    holds(&rt, first_other_length(&LENGTHS).is_none());
 }
 
 // `len` words of 0.
@@ -100,18 +43,12 @@ fn opening(alloc: Global, left: Option<u64>) -> Result<Result<Vec<u64>, Halt>, A
     }
 }
 
-// The words and the reply after one step of Tally on an image, with `left` accesses allowed.
-fn stepped(
-    words: Vec<u64>,
-    left: Option<u64>,
-    op: &[u64; 144],
-) -> Result<(Vec<u64>, [u64; 144]), Halt>
+// Whether one step of Tally on an image is done, with `left` accesses allowed.
+fn is_stepped(words: Vec<u64>, left: u64, op: &[u64; 144]) -> bool
     requires { IsTally words.items }
-    ensures { IfOk result (λ made. tally_step words.items op.now ≡ (made.0.items, made.1)) }
 {
-    let mut memory = VecMemory::of(words, left);
-    let reply = Tally.run(&mut memory, op)?;
-    Ok((memory.into_words(), reply))
+    let mut memory = VecMemory::of(words, Some(left));
+    Tally.run(&mut memory, op).is_ok()
 }
 
 // The 144 words of an operation or a reply: these two come first, and all others are 0.
@@ -120,91 +57,6 @@ fn words_of(first: u64, second: u64) -> [u64; 144] {
     words[0] = first;
     words[1] = second;
     words
-}
-
-// The words after one step of Tally, without a limit of accesses; `None` where the words before are no image, or the reply is not `sum`.
-fn step(
-    alloc: Global,
-    words: Vec<u64>,
-    op: &[u64; 144],
-    sum: u64,
-) -> Result<Option<Vec<u64>>, AllocError> {
-    if !Tally.check(alloc, &words)? {
-        return Ok(None);
-    }
-    let Ok(made) = stepped(words, None, op) else {
-        return Ok(None);
-    };
-    if made.1 != words_of(sum, 0) {
-        return Ok(None);
-    }
-    Ok(Some(made.0))
-}
-
-// Operations in turn: the first word, which is added; the second word, which is 1 in one that reads; and the sum that is the reply.
-const STEPS: [(u64, u64, u64); 3] = [
-    (5, 0, 5),
-    // the sum goes on from 0 at the end of 64 bits
-    (u64::MAX, 0, 4),
-    // nothing is added by one that reads
-    (100, 1, 4),
-];
-
-// Whether the steps of rows, in turn from the opening image on, are answered the sums of the rows, and leave the image with the last sum.
-fn are_summed(alloc: Global, rows: &[(u64, u64, u64)]) -> Result<bool, AllocError> {
-    let mut words = match opening(alloc, None)? {
-        Ok(words) => words,
-        Err(_) => return Ok(false),
-    };
-    let mut last = 0;
-    for (first, second, sum) in rows {
-        match step(alloc, words, &words_of(*first, *second), *sum)? {
-            Some(after) => words = after,
-            None => return Ok(false),
-        }
-        last = *sum;
-    }
-    Ok(is_image(&words, last))
-}
-
-// Whether words are the image of Tally with this sum: its version, which is 7, the sum, and 510 words of 0.
-fn is_image(words: &[u64], sum: u64) -> bool {
-    words.len() == 512
-        && words[0] == 7
-        && words[1] == sum
-        && words[2..].iter().all(|word| *word == 0)
-}
-
-// How many words, the first of them, which words of 0 follow, and whether they are an image. The second row
-// has a word too few, and the third another version.
-const CHECKED: [(usize, u64, bool); 3] = [(512, 7, true), (511, 7, false), (512, 8, false)];
-
-// The first row of which `check` does not return what the row says.
-fn first_other_check(
-    alloc: Global,
-    rows: &[(usize, u64, bool)],
-) -> Result<Option<usize>, AllocError> {
-    for (i, (len, first, lawful)) in rows.iter().enumerate() {
-        let mut words = zeros(alloc, *len)?;
-        if let Some(word) = words.first_mut() {
-            *word = *first;
-        }
-        if Tally.check(alloc, &words)? != *lawful {
-            return Ok(Some(i));
-        }
-    }
-    Ok(None)
-}
-
-#[test]
-fn tally_over_a_vector(rt: HostRuntime) {
-    let alloc = rt.alloc();
-    holds_with_memory(&rt, are_summed(alloc, &STEPS));
-    all_hold(&rt, first_other_check(alloc, &CHECKED));
-    holds(&rt, Tally.lines() == 64);
-    holds(&rt, Tally.version() == 7);
-    holds(&rt, Tally.reads(&words_of(100, 1)));
-    holds(&rt, !Tally.reads(&words_of(1, 0)));
 }
 
 // The first limit of accesses, below 514, at which `format` goes wrong: it has to halt below 512, and to succeed from there on.
@@ -225,7 +77,7 @@ fn is_done(alloc: Global, op: &[u64; 144], left: u64) -> Result<Option<bool>, Al
     if !Tally.check(alloc, &words)? {
         return Ok(None);
     }
-    Ok(Some(stepped(words, Some(left), op).is_ok()))
+    Ok(Some(is_stepped(words, left, op)))
 }
 
 // The first limit below 4 under which a step that needs `needs` accesses halts where it should not, or does not where it should.

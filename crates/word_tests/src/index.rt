@@ -9,12 +9,11 @@ ghost use Rattle.index_validation.specs.Layout.{IsIndex};
 
 use crate::holds::holds;
 use cx_base::{Halt, Memory, Steps, VecMemory, pack, packed_unpacks};
-use std::alloc::{AllocError, Global};
 use std::marker::Brand;
 use std::sync::ledger::{Blank, Ledger};
 use std::test::Fail;
 use word_index::{
-    Doc, Inserted, Key, count, find, format_index, insert, last_revision, lawful, least_above,
+    Doc, Inserted, Key, count, find, format_index, insert, last_revision, least_above,
     read_document, remove, rev_at,
 };
 
@@ -306,58 +305,6 @@ fn two_keys_over_a_vector(rt: HostRuntime) -> Result<(), Fail> {
     holds(
         &rt,
         over_a_vector::<Brand>(words, Blank::new(1)) == Ok(None),
-    );
-    Ok(())
-}
-
-// Whether two writes both give the greatest revision, in an index in which the last one given is the one before it.
-fn greatest_is_given_again<M: Memory, L: Ledger>(
-    memory: &mut M,
-    visits: &mut Steps<L>,
-) -> Result<bool, Halt>
-    requires size { M.size memory.old ≡ 512 }
-    requires writable { IsTrue (M.writable memory.old) }
-    requires lawful { Always (M.stands memory.old) IsIndex }
-{
-    put_same(memory, &[b'a'], b'1', 1, visits)?;
-    let first = revisions(memory, &[b'a'], visits)?;
-    put_same(memory, &[b'b'], b'2', 1, visits)?;
-    let second = revisions(memory, &[b'b'], visits)?;
-    Ok(first == (Some(u64::MAX), u64::MAX) && second == (Some(u64::MAX), u64::MAX))
-}
-
-// Whether two writes both give the greatest revision, in words that are an index in which the last one given is the one before it.
-fn greatest_over_a_vector<L: Ledger>(
-    alloc: Global,
-    words: Vec<u64>,
-    blank: Blank,
-) -> Result<bool, AllocError>
-    requires long { length words.items ≡ 512 }
-    requires name { blank.name ≡ L.name }
-    requires parts { blank.parts ≡ L.parts }
-    requires some { 0 < L.parts }
-{
-    if !lawful(alloc, &words, 2)? {
-        return Ok(false);
-    }
-    let mut memory = VecMemory::of(words, None);
-    let mut visits = Steps::<L>::open(blank);
-    Ok(greatest_is_given_again(&mut memory, &mut visits) == Ok(true))
-}
-
-#[test]
-fn the_greatest_revision_is_given_again(rt: HostRuntime) -> Result<(), Fail> {
-    let alloc = rt.alloc();
-    let mut words = vec![in alloc; 0; 512]?;
-    // the version
-    words[0] = 2;
-    // the end of the lines in use: the header alone
-    words[3] = 1;
-    // the last revision that was given
-    words[6] = u64::MAX - 1;
-    holds(
-        &rt,
-        greatest_over_a_vector::<Brand>(alloc, words, Blank::new(1))?,
     );
     Ok(())
 }
