@@ -137,7 +137,7 @@ const NOTES: [Row; 30] = [
         },
         true,
     ),
-    // no line between two that follow or are the same, and a line behind the gap that is in front of it
+    // gaps without a line: between two lines that follow each other, from a line to itself, and where the line behind the gap is the lower one
     (
         0,
         Kind::NoteGap {

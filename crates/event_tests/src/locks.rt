@@ -233,7 +233,7 @@ const DOWNGRADED_FIRST: [Row; 11] = [
     (0, Kind::ReleaseExclusive { r: 1 }, true),
 ];
 
-// Each of three callers links an entry, and caller 0 makes replica 1 the image after the first: 24 steps.
+// Each of three callers links an entry, and caller 0 makes replica 1 the image after the first: 24 events.
 const BEGINNING: [Row; 24] = [
     (0, Kind::WriteCell { j: 0, i: 0, v: 1 }, true),
     (0, Kind::WriteCell { j: 0, i: 1, v: 5 }, true),
@@ -277,7 +277,7 @@ const BEGINNING: [Row; 24] = [
 ];
 
 // Caller 1 is refused everywhere in turn, at last by a shared hold that outlives its try; caller 2 stores words and
-// persists them in another order; then all is as before, but for what was counted. Eight rounds of 33 steps.
+// persists them in another order; then all is as before, but for what was counted. Eight rounds of 33 events.
 const ROUND: [Row; 33] = [
     (1, Kind::TryExclusive { r: 0 }, true),
     (1, Kind::TryExclusive { r: 1 }, true),
@@ -344,7 +344,7 @@ const ROUND: [Row; 33] = [
     (1, Kind::LoadFree, true),
 ];
 
-// Caller 1 is left with a replica half stored, caller 2 with a passer's mark on it, caller 0 with a shared hold: 12 steps.
+// Caller 1 is left with a replica half stored, caller 2 with a passer's mark on it, caller 0 with a shared hold: 12 events.
 const END: [Row; 12] = [
     (1, Kind::TryExclusive { r: 2 }, true),
     (1, Kind::StoreWord { r: 2, i: 0, v: 2 }, true),
@@ -382,7 +382,7 @@ const PLACE_OF_5: Kind = Kind::LoadWord {
 // Replica 2 as caller 1 leaves it: the place and its own slot are stored, and the sum is not.
 const HALF_STORED: Words = &[(0, 2), (153, 1), (154, 12), (VERSION_AT, 7)];
 
-// After 300 steps, the lock words, what VOL and PER hold of each replica, and what each caller knows.
+// After these 300 events, of which 26 are refused, the lock words, what VOL and PER hold of each replica, and what each caller knows.
 const AFTER_300: [Fact; 17] = [
     Fact::Locks(&[1, 1, EXCLUSIVE_MARK + 1, 0, 1, 0]),
     Fact::Replica(0, IMAGE_0, IMAGE_0),

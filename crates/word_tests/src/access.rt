@@ -113,8 +113,8 @@ type Limited = (u64, u64, u64, &'static [u8], [u64; 4]);
 /// What stands in a row for a number without a limit.
 const NO_LIMIT: u64 = u64::MAX;
 
-// Each operation visits at most 7, 14, 20 and 25 nodes: the greatest v with 2^v <= 2 * (n + 1)^2. A get loads 5 v + 10
-// words and stores none, and a change has 8 v + 64 accesses.
+// Each operation visits at most 7, 14, 20 and 25 nodes: the greatest v with 2^v <= 2 * (n + 1)^2. A get loads at most
+// 5 v + 10 words and stores none, and a change has at most 8 v + 64 accesses.
 static GROWING: [Limited; 20] = [
     (
         10,

@@ -1,15 +1,14 @@
-//! The worked rows of codes and packing, and the object Tally over two memories.
+//! The worked row of codes, and the object Tally over two memories, with each limit.
 
-ghost use Rattle.std.specs.Prelude.{◌≡◌, ◌<◌, ◌≤◌, IfOk, IsTrue, length, replicate, slice_index};
-ghost use Rattle.cx_base.specs.Memory.{Always};
-ghost use Rattle.cx_base.specs.Tally.{IsTally, tally_opening, tally_step};
+ghost use Rattle.std.specs.Prelude.{◌≡◌, IfOk, IsTrue, replicate};
+ghost use Rattle.cx_base.specs.Tally.{IsTally, tally_opening};
 
 use crate::holds::{all_hold, holds, holds_with_memory};
 use crate::noted::Noted;
 use cx_base::tally::Tally;
 use cx_base::{
-    Halt, Memory, Object, Sink, Source, VecMemory, VecSink, VecSource, link_cell, link_code,
-    link_ticket, load_below, pack, root_code, root_place, root_replica, store_words, unpack,
+    Halt, Memory, Object, VecMemory, link_cell, link_code, link_ticket, root_code, root_place,
+    root_replica,
 };
 use std::alloc::{AllocError, Global};
 
@@ -23,63 +22,6 @@ fn codes_of_the_worked_row(rt: HostRuntime) {
     holds(&rt, link_cell(2, 1062) == 5);
     holds(&rt, root_code(8, 1 << 40, 15) == 17592186044431);
     holds(&rt, link_code(1, 0, 0) == 1);
-}
-
-// Whether bytes packed into three words, which were 5 before, give the words `wanted`.
-fn are_packed(bytes: &[u8], wanted: &[u64; 3]) -> bool
-    requires { length bytes.now ≤ 24 }
-{
-    let mut words = [5; 3];
-    pack(bytes, &mut words);
-    words == *wanted
-}
-
-// Whether the first nine bytes unpacked from two words are those of `wanted`.
-fn are_unpacked(words: &[u64; 2], wanted: &[u8; 9]) -> bool {
-    let mut bytes = [1; 9];
-    unpack(words, &mut bytes);
-    bytes == *wanted
-}
-
-// Whether `len` bytes, up to 1,024, come back when they are packed and unpacked, with zeros behind them. Each byte differs from its
-// neighbours.
-fn come_back(len: usize) -> bool {
-    if len > 1024 {
-        return false;
-    }
-    let mut bytes = [0; 1024];
-    for i in 0..len {
-        bytes[i] = (i % 251) as u8;
-    }
-    let mut words = [u64::MAX; 128];
-    pack(&bytes[..len], &mut words);
-    let mut back = [255; 1024];
-    unpack(&words, &mut back);
-    back == bytes
-}
-
-// The first length whose bytes do not come back.
-fn first_other_length(lengths: &[usize]) -> Option<usize> {
-    for len in lengths {
-        if !come_back(*len) {
-            return Some(*len);
-        }
-    }
-    None
-}
-
-// The bytes of one word, and one more.
-const NINE: [u8; 9] = [1, 2, 3, 4, 5, 6, 7, 8, 9];
-
-// Lengths in bytes: none and one, about the 8 of a word and the 56 of seven words, and the most that 128 words hold.
-const LENGTHS: [usize; 8] = [0, 1, 7, 8, 9, 56, 57, 1024];
-
-#[test]
-fn bytes_are_packed(rt: HostRuntime) {
-    holds(&rt, are_packed(&NINE, &[0x0807_0605_0403_0201, 9, 0]));
-    holds(&rt, are_packed(&[255; 8], &[u64::MAX, 0, 0]));
-    holds(&rt, are_unpacked(&[0x0807_0605_0403_0201, 0xff09], &NINE));
-    holds(&rt, first_other_length(&LENGTHS).is_none());
 }
 
 // `len` words of 0.
@@ -100,18 +42,12 @@ fn opening(alloc: Global, left: Option<u64>) -> Result<Result<Vec<u64>, Halt>, A
     }
 }
 
-// The words and the reply after one step of Tally on an image, with `left` accesses allowed.
-fn stepped(
-    words: Vec<u64>,
-    left: Option<u64>,
-    op: &[u64; 144],
-) -> Result<(Vec<u64>, [u64; 144]), Halt>
+// Whether one step of Tally on an image is done, with `left` accesses allowed.
+fn is_stepped(words: Vec<u64>, left: u64, op: &[u64; 144]) -> bool
     requires { IsTally words.items }
-    ensures { IfOk result (λ made. tally_step words.items op.now ≡ (made.0.items, made.1)) }
 {
-    let mut memory = VecMemory::of(words, left);
-    let reply = Tally.run(&mut memory, op)?;
-    Ok((memory.into_words(), reply))
+    let mut memory = VecMemory::of(words, Some(left));
+    Tally.run(&mut memory, op).is_ok()
 }
 
 // The 144 words of an operation or a reply: these two come first, and all others are 0.
@@ -120,91 +56,6 @@ fn words_of(first: u64, second: u64) -> [u64; 144] {
     words[0] = first;
     words[1] = second;
     words
-}
-
-// The words after one step of Tally, without a limit of accesses; `None` where the words before are no image, or the reply is not `sum`.
-fn step(
-    alloc: Global,
-    words: Vec<u64>,
-    op: &[u64; 144],
-    sum: u64,
-) -> Result<Option<Vec<u64>>, AllocError> {
-    if !Tally.check(alloc, &words)? {
-        return Ok(None);
-    }
-    let Ok(made) = stepped(words, None, op) else {
-        return Ok(None);
-    };
-    if made.1 != words_of(sum, 0) {
-        return Ok(None);
-    }
-    Ok(Some(made.0))
-}
-
-// Operations in turn: the first word, which is added; the second word, which is 1 in one that reads; and the sum that is the reply.
-const STEPS: [(u64, u64, u64); 3] = [
-    (5, 0, 5),
-    // the sum goes on from 0 at the end of 64 bits
-    (u64::MAX, 0, 4),
-    // nothing is added by one that reads
-    (100, 1, 4),
-];
-
-// Whether the steps of rows, in turn from the opening image on, are answered the sums of the rows, and leave the image with the last sum.
-fn are_summed(alloc: Global, rows: &[(u64, u64, u64)]) -> Result<bool, AllocError> {
-    let mut words = match opening(alloc, None)? {
-        Ok(words) => words,
-        Err(_) => return Ok(false),
-    };
-    let mut last = 0;
-    for (first, second, sum) in rows {
-        match step(alloc, words, &words_of(*first, *second), *sum)? {
-            Some(after) => words = after,
-            None => return Ok(false),
-        }
-        last = *sum;
-    }
-    Ok(is_image(&words, last))
-}
-
-// Whether words are the image of Tally with this sum: its version, which is 7, the sum, and 510 words of 0.
-fn is_image(words: &[u64], sum: u64) -> bool {
-    words.len() == 512
-        && words[0] == 7
-        && words[1] == sum
-        && words[2..].iter().all(|word| *word == 0)
-}
-
-// How many words, the first of them, which words of 0 follow, and whether they are an image. The second row
-// has a word too few, and the third another version.
-const CHECKED: [(usize, u64, bool); 3] = [(512, 7, true), (511, 7, false), (512, 8, false)];
-
-// The first row of which `check` does not return what the row says.
-fn first_other_check(
-    alloc: Global,
-    rows: &[(usize, u64, bool)],
-) -> Result<Option<usize>, AllocError> {
-    for (i, (len, first, lawful)) in rows.iter().enumerate() {
-        let mut words = zeros(alloc, *len)?;
-        if let Some(word) = words.first_mut() {
-            *word = *first;
-        }
-        if Tally.check(alloc, &words)? != *lawful {
-            return Ok(Some(i));
-        }
-    }
-    Ok(None)
-}
-
-#[test]
-fn tally_over_a_vector(rt: HostRuntime) {
-    let alloc = rt.alloc();
-    holds_with_memory(&rt, are_summed(alloc, &STEPS));
-    all_hold(&rt, first_other_check(alloc, &CHECKED));
-    holds(&rt, Tally.lines() == 64);
-    holds(&rt, Tally.version() == 7);
-    holds(&rt, Tally.reads(&words_of(100, 1)));
-    holds(&rt, !Tally.reads(&words_of(1, 0)));
 }
 
 // The first limit of accesses, below 514, at which `format` goes wrong: it has to halt below 512, and to succeed from there on.
@@ -225,7 +76,7 @@ fn is_done(alloc: Global, op: &[u64; 144], left: u64) -> Result<Option<bool>, Al
     if !Tally.check(alloc, &words)? {
         return Ok(None);
     }
-    Ok(Some(stepped(words, Some(left), op).is_ok()))
+    Ok(Some(is_stepped(words, left, op)))
 }
 
 // The first limit below 4 under which a step that needs `needs` accesses halts where it should not, or does not where it should.
@@ -278,188 +129,4 @@ fn adds_nine(alloc: Global) -> Result<bool, AllocError> {
 fn tally_over_a_memory_with_notes(rt: HostRuntime) {
     holds_with_memory(&rt, counts_accesses(rt.alloc()));
     holds_with_memory(&rt, adds_nine(rt.alloc()));
-}
-
-// Loads word 0, which is below 10, stores 3, 4 and this word plus 5 over the words 2 to 4, and returns word 4.
-fn load_and_store<M: Memory>(memory: &mut M) -> Result<u64, Halt>
-    requires size { M.size memory.old ≡ 8 }
-    requires writable { IsTrue (M.writable memory.old) }
-    requires below { Always (M.stands memory.old) (λ words. slice_index words 0 < 10) }
-{
-    let word = load_below(memory, 0, 10)?;
-    store_words(memory, 2, &[3, 4, word + 5])?;
-    memory.load(4)
-}
-
-// What `load_and_store` returns over a memory of these eight words that allows `left` accesses.
-fn over_words(words: Vec<u64>, left: Option<u64>) -> Result<u64, Halt>
-    requires long { length words.items ≡ 8 }
-    requires below { slice_index words.items 0 < 10 }
-{
-    let mut memory = VecMemory::of(words, left);
-    load_and_store(&mut memory)
-}
-
-// Eight words, and how many accesses putting three words over them takes. Each of the three is loaded and, where it differs,
-// stored: beside the two other loads, eight accesses where all differ, and five where none does.
-const PUT: [([u64; 8], u64); 3] = [
-    ([0, 0, 0, 0, 0, 0, 0, 0], 8),
-    ([0, 0, 3, 0, 5, 0, 0, 0], 6),
-    ([0, 0, 3, 4, 5, 0, 0, 0], 5),
-];
-
-// Whether `load_and_store` over these words, with `left` accesses allowed, returns what is wanted.
-fn is_put(
-    alloc: Global,
-    words: &[u64; 8],
-    left: u64,
-    wanted: Result<u64, Halt>,
-) -> Result<bool, AllocError> {
-    if words[0] >= 10 {
-        return Ok(false);
-    }
-    let words = Vec::from_slice(alloc, words)?;
-    Ok(over_words(words, Some(left)) == wanted)
-}
-
-// The number of the first row over whose words `load_and_store` takes more accesses than the row says, or fewer.
-fn first_other_put(alloc: Global, rows: &[([u64; 8], u64)]) -> Result<Option<usize>, AllocError> {
-    for (i, (words, accesses)) in rows.iter().enumerate() {
-        for left in 0..*accesses {
-            if !is_put(alloc, words, left, Err(Halt))? {
-                return Ok(Some(i));
-            }
-        }
-        if !is_put(alloc, words, *accesses, Ok(5))? {
-            return Ok(Some(i));
-        }
-    }
-    Ok(None)
-}
-
-#[test]
-fn words_over_a_memory(rt: HostRuntime) {
-    all_hold(&rt, first_other_put(rt.alloc(), &PUT));
-}
-
-// The text that a source gives, or a sink takes.
-const TEXT: &[u8; 8] = b"abcdefgh";
-
-// What stands in a row for the number of bytes where a call fails.
-const FAILED: usize = usize::MAX;
-
-// The most bytes that a call moves; the calls that fail, counted from 1; the room of the caller's buffer or of the sink; and what each
-// call returns in turn.
-type Chunks = (usize, &'static [u64], usize, &'static [usize]);
-
-// Rows of a source: each call of a row reads the text on from where the call before ended.
-const READ: [Chunks; 5] = [
-    (3, &[2], 8, &[3, FAILED, 3, 2, 0, 0]),
-    (8, &[], 8, &[8, 0]),
-    (8, &[], 5, &[5, 3, 0]),
-    (
-        1,
-        &[1, 2, 9],
-        4,
-        &[FAILED, FAILED, 1, 1, 1, 1, 1, 1, FAILED, 1, 1, 0],
-    ),
-    (100, &[2], 100, &[8, FAILED, 0]),
-];
-
-// Whether the calls of a source with a buffer of `room` bytes return these answers, and give the whole text.
-fn gives(source: &mut VecSource, room: usize, answers: &[usize]) -> bool
-    requires some { 0 < room }
-    requires few { room ≤ 100 }
-{
-    let text = &TEXT[..];
-    let mut buffer = [0; 100];
-    let mut at = 0;
-    for answer in answers {
-        match source.read(&mut buffer[..room]) {
-            Ok(n) => {
-                if n != *answer || at > 8 || n > 8 - at || buffer[..n] != text[at..at + n] {
-                    return false;
-                }
-                at += n;
-            }
-            Err(_) => {
-                if FAILED != *answer {
-                    return false;
-                }
-            }
-        }
-    }
-    at == 8
-}
-
-// The first row of a source whose calls return other answers than the row's, or another text.
-fn first_other_source(alloc: Global, rows: &[Chunks]) -> Result<Option<usize>, AllocError> {
-    for (i, (chunk, fails, room, answers)) in rows.iter().enumerate() {
-        if *chunk == 0 || *room == 0 || *room > 100 {
-            return Ok(Some(i));
-        }
-        let fails = Vec::from_slice(alloc, fails)?;
-        let mut source = VecSource::new(Vec::from_slice(alloc, TEXT)?, *chunk, fails);
-        if !gives(&mut source, *room, answers) {
-            return Ok(Some(i));
-        }
-    }
-    Ok(None)
-}
-
-// Rows of a sink: each call of a row writes the text on from where the call before ended, and fails where there is no room left.
-const WRITTEN: [Chunks; 4] = [
-    (3, &[2], 8, &[3, FAILED, 3, 2]),
-    (8, &[], 5, &[5, FAILED, FAILED]),
-    (1, &[1, 3], 2, &[FAILED, 1, FAILED, 1, FAILED]),
-    (100, &[], 8, &[8]),
-];
-
-// Whether the calls of a sink return these answers, and leave written what they took of the text.
-fn takes(sink: &mut VecSink, answers: &[usize]) -> bool {
-    let text = &TEXT[..];
-    let mut at = 0;
-    for answer in answers {
-        if at >= 8 {
-            return false;
-        }
-        match sink.write(&text[at..]) {
-            Ok(n) => {
-                if n != *answer || n > 8 - at {
-                    return false;
-                }
-                at += n;
-            }
-            Err(_) => {
-                if FAILED != *answer {
-                    return false;
-                }
-            }
-        }
-        if sink.written() != &text[..at] {
-            return false;
-        }
-    }
-    true
-}
-
-// The first row of a sink whose calls return other answers than the row's, or leave another text.
-fn first_other_sink(alloc: Global, rows: &[Chunks]) -> Result<Option<usize>, AllocError> {
-    for (i, (chunk, fails, room, answers)) in rows.iter().enumerate() {
-        if *chunk == 0 {
-            return Ok(Some(i));
-        }
-        let fails = Vec::from_slice(alloc, fails)?;
-        let mut sink = VecSink::new(Vec::with_capacity(alloc, *room)?, *chunk, fails);
-        if !takes(&mut sink, answers) {
-            return Ok(Some(i));
-        }
-    }
-    Ok(None)
-}
-
-#[test]
-fn texts_by_chunks(rt: HostRuntime) {
-    all_hold(&rt, first_other_source(rt.alloc(), &READ));
-    all_hold(&rt, first_other_sink(rt.alloc(), &WRITTEN));
 }

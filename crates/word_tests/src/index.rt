@@ -9,14 +9,10 @@ ghost use Rattle.index_validation.specs.Layout.{IsIndex};
 
 use crate::holds::holds;
 use cx_base::{Halt, Memory, Steps, VecMemory, pack, packed_unpacks};
-use std::alloc::{AllocError, Global};
 use std::marker::Brand;
 use std::sync::ledger::{Blank, Ledger};
 use std::test::Fail;
-use word_index::{
-    Doc, Inserted, Key, count, find, format_index, insert, last_revision, lawful, least_above,
-    read_document, remove, rev_at,
-};
+use word_index::{Doc, Inserted, Key, find, format_index, insert, read_document};
 
 // The key of these bytes, packed into words.
 fn key_of(bytes: &[u8]) -> Key
@@ -102,42 +98,6 @@ pub fn format<M: Memory>(memory: &mut M) -> Result<(), Halt>
     Ok(())
 }
 
-// Takes a key out, and returns whether it was there.
-pub fn take<M: Memory, L: Ledger>(
-    memory: &mut M,
-    key: &[u8],
-    visits: &mut Steps<L>,
-) -> Result<bool, Halt>
-    requires size { M.size memory.old ≡ 512 }
-    requires writable { IsTrue (M.writable memory.old) }
-    requires lawful { Always (M.stands memory.old) IsIndex }
-    requires key { IsKey key.now }
-    ensures size { M.size memory.new ≡ 512 }
-    ensures writable { IsTrue (M.writable memory.new) }
-    ensures lawful { OnOk result (Always (M.stands memory.new) IsIndex) }
-{
-    let there = remove(memory, &key_of(key), visits)?;
-    Ok(there)
-}
-
-// The number of pairs, and the first word of the least key above a key: of a key of one byte, this byte.
-fn look<M: Memory, L: Ledger>(
-    memory: &mut M,
-    key: &[u8],
-    visits: &mut Steps<L>,
-) -> Result<(u64, Option<u64>), Halt>
-    requires size { M.size memory.old ≡ 512 }
-    requires lawful { Always (M.stands memory.old) IsIndex }
-    requires key { IsKey key.now }
-    ensures size { M.size memory.new ≡ 512 }
-    ensures writable { M.writable memory.new ≡ M.writable memory.old }
-    ensures lawful { OnOk result (Always (M.stands memory.new) IsIndex) }
-{
-    let pairs = count(memory)?;
-    let above = least_above(memory, &key_of(key), visits)?;
-    Ok((pairs, above.map(|key| key.words[0])))
-}
-
 // The first word of the document of a key, or `None` where the key is missing.
 fn read<M: Memory, L: Ledger>(
     memory: &mut M,
@@ -160,85 +120,33 @@ fn read<M: Memory, L: Ledger>(
     Ok(Some(words[0]))
 }
 
-// The revision of a key, or `None` where it is missing, and the last revision that was given to any key.
-fn revisions<M: Memory, L: Ledger>(
-    memory: &mut M,
-    key: &[u8],
-    visits: &mut Steps<L>,
-) -> Result<(Option<u64>, u64), Halt>
-    requires size { M.size memory.old ≡ 512 }
-    requires lawful { Always (M.stands memory.old) IsIndex }
-    requires key { IsKey key.now }
-    ensures size { M.size memory.new ≡ 512 }
-    ensures writable { M.writable memory.new ≡ M.writable memory.old }
-    ensures lawful { OnOk result (Always (M.stands memory.new) IsIndex) }
-{
-    let last = last_revision(memory)?;
-    let found = find(memory, &key_of(key), visits)?;
-    let Some(node) = found else {
-        return Ok((None, last));
-    };
-    let revision = rev_at(memory, node)?;
-    Ok((Some(revision), last))
-}
-
 // A call on a key, and what it returns.
 enum Call {
     // a document is put: its byte, how often it stands there, and whether the key is new
     Put(u8, usize, Inserted),
-    // the key is taken out: whether it was there
-    Take(bool),
-    // the number of pairs, and the first word of the least key above
-    Look(u64, Option<u64>),
     // the first word of the document
     Read(Option<u64>),
-    // the revision of the key, and the last one given
-    Rev(Option<u64>, u64),
 }
 
-// Calls in turn on the empty index, each with its key. Each put but one without room gives the next revision. In what is returned, 98 is
-// the letter b, and 51 to 54 are the digits 3 to 6.
-static CALLS: [(u8, Call); 32] = [
-    // nothing is there, and nothing is taken out
-    (b'a', Call::Look(0, None)),
-    (b'a', Call::Rev(None, 0)),
-    (b'a', Call::Take(false)),
-    // two keys are put
+// Calls in turn on the empty index, each with its key. In what is read, 51 and 53 are the digits 3 and 5.
+static CALLS: [(u8, Call); 12] = [
+    // nothing is there
+    (b'a', Call::Read(None)),
+    // two keys are put, and one of them again
     (b'b', Call::Put(b'1', 1, Inserted::New)),
-    (b'b', Call::Rev(Some(1), 1)),
     (b'a', Call::Put(b'2', 1, Inserted::New)),
-    (b'a', Call::Rev(Some(2), 2)),
-    // one of them is put again, and both are there
     (b'b', Call::Put(b'3', 1, Inserted::Replaced)),
-    (b'b', Call::Rev(Some(3), 3)),
-    (b'a', Call::Rev(Some(2), 3)),
-    (b'a', Call::Look(2, Some(98))),
-    (b'b', Call::Look(2, None)),
     (b'b', Call::Read(Some(51))),
     // three long documents fill the lines
     (b'a', Call::Put(52, 1024, Inserted::Replaced)),
-    (b'a', Call::Rev(Some(4), 4)),
     (b'c', Call::Put(53, 1024, Inserted::New)),
     (b'b', Call::Put(54, 1024, Inserted::Replaced)),
-    // there is no room for a fourth key, and no revision is given
+    // there is no room for a fourth key
     (b'd', Call::Put(b'6', 1, Inserted::NoRoom)),
-    (b'd', Call::Rev(None, 6)),
     // a shorter document is put in place of a longer one
     (b'c', Call::Put(b'5', 1, Inserted::Replaced)),
-    (b'c', Call::Rev(Some(7), 7)),
     (b'a', Call::Read(Some(0x34343434_34343434))),
     (b'c', Call::Read(Some(53))),
-    // two keys are taken out, and one is left
-    (b'c', Call::Take(true)),
-    (b'a', Call::Take(true)),
-    (b'a', Call::Read(None)),
-    (b'a', Call::Look(1, Some(98))),
-    (b'b', Call::Rev(Some(6), 7)),
-    (b'a', Call::Rev(None, 7)),
-    // a key that was taken out is put again, and has the next revision
-    (b'c', Call::Put(b'7', 1, Inserted::New)),
-    (b'c', Call::Rev(Some(8), 8)),
-    (b'b', Call::Rev(Some(6), 8)),
 ];
 
 // Whether a call on a key returns what the call says.
@@ -263,10 +171,7 @@ fn is_answered<M: Memory, L: Ledger>(
             }
             Ok(put_same(memory, &[key], *byte, *len, visits)? == *wanted)
         }
-        Call::Take(wanted) => Ok(take(memory, &[key], visits)? == *wanted),
-        Call::Look(pairs, above) => Ok(look(memory, &[key], visits)? == (*pairs, *above)),
         Call::Read(wanted) => Ok(read(memory, &[key], visits)? == *wanted),
-        Call::Rev(revision, last) => Ok(revisions(memory, &[key], visits)? == (*revision, *last)),
     }
 }
 
@@ -306,58 +211,6 @@ fn two_keys_over_a_vector(rt: HostRuntime) -> Result<(), Fail> {
     holds(
         &rt,
         over_a_vector::<Brand>(words, Blank::new(1)) == Ok(None),
-    );
-    Ok(())
-}
-
-// Whether two writes both give the greatest revision, in an index in which the last one given is the one before it.
-fn greatest_is_given_again<M: Memory, L: Ledger>(
-    memory: &mut M,
-    visits: &mut Steps<L>,
-) -> Result<bool, Halt>
-    requires size { M.size memory.old ≡ 512 }
-    requires writable { IsTrue (M.writable memory.old) }
-    requires lawful { Always (M.stands memory.old) IsIndex }
-{
-    put_same(memory, &[b'a'], b'1', 1, visits)?;
-    let first = revisions(memory, &[b'a'], visits)?;
-    put_same(memory, &[b'b'], b'2', 1, visits)?;
-    let second = revisions(memory, &[b'b'], visits)?;
-    Ok(first == (Some(u64::MAX), u64::MAX) && second == (Some(u64::MAX), u64::MAX))
-}
-
-// Whether two writes both give the greatest revision, in words that are an index in which the last one given is the one before it.
-fn greatest_over_a_vector<L: Ledger>(
-    alloc: Global,
-    words: Vec<u64>,
-    blank: Blank,
-) -> Result<bool, AllocError>
-    requires long { length words.items ≡ 512 }
-    requires name { blank.name ≡ L.name }
-    requires parts { blank.parts ≡ L.parts }
-    requires some { 0 < L.parts }
-{
-    if !lawful(alloc, &words, 2)? {
-        return Ok(false);
-    }
-    let mut memory = VecMemory::of(words, None);
-    let mut visits = Steps::<L>::open(blank);
-    Ok(greatest_is_given_again(&mut memory, &mut visits) == Ok(true))
-}
-
-#[test]
-fn the_greatest_revision_is_given_again(rt: HostRuntime) -> Result<(), Fail> {
-    let alloc = rt.alloc();
-    let mut words = vec![in alloc; 0; 512]?;
-    // the version
-    words[0] = 2;
-    // the end of the lines in use: the header alone
-    words[3] = 1;
-    // the last revision that was given
-    words[6] = u64::MAX - 1;
-    holds(
-        &rt,
-        greatest_over_a_vector::<Brand>(alloc, words, Blank::new(1))?,
     );
     Ok(())
 }

@@ -25,8 +25,6 @@ mod index;
 #[cfg(test)]
 mod lanes;
 #[cfg(test)]
-mod links;
-#[cfg(test)]
 mod meanings;
 #[cfg(test)]
 mod medium;

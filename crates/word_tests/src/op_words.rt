@@ -4,8 +4,8 @@ use crate::holds::holds;
 use crate::rows::{LETTERS, Row, has_reply, laid_out, words_of};
 use cx_base::pack;
 use doc_model::{
-    Op, OpFault, Reply, is_key, is_op, op_of, op_words, packed_document_reply, packed_key_reply,
-    reply_of, reply_words,
+    Op, OpFault, Reply, is_op, op_of, op_words, packed_document_reply, packed_key_reply, reply_of,
+    reply_words,
 };
 use std::alloc::{AllocError, Global};
 use std::test::Fail;
@@ -324,11 +324,4 @@ fn words_are_read_as_replies(rt: HostRuntime) -> Result<(), Fail> {
     holds(&rt, first_other_reply(rt.alloc(), &REPLIES)?.is_none());
     holds(&rt, are_packed(&KEY_WORDS, &DOCUMENT_WORDS));
     Ok(())
-}
-
-#[test]
-fn bytes_of_keys(rt: HostRuntime) {
-    holds(&rt, is_key(b"!") && is_key(&[b'~'; 64]));
-    holds(&rt, !is_key(b"") && !is_key(&[b'~'; 65]));
-    holds(&rt, !is_key(b"a b") && !is_key(&[0x7F]));
 }

@@ -218,21 +218,6 @@ pub(crate) fn memory(alloc: Global, lines: u64) -> Result<VecMemory, AllocError>
     Ok(VecMemory::of(words, None))
 }
 
-/// Whether the store, empty at first, in `lines` lines, and the plain program, from these pairs on, both answer the operations of rows in turn by
-/// their replies.
-pub(crate) fn are_answered_with(
-    alloc: Global,
-    lines: u64,
-    pairs: &mut Pairs,
-    rows: &[(Row, Row)],
-) -> Result<bool, AllocError>
-    requires some { 1 ≤ lines }
-    requires few { lines ≤ 64 }
-{
-    let mut mem = memory(alloc, lines)?;
-    both_answer(alloc, &DocStore::of(lines), &mut mem, pairs, rows)
-}
-
 /// Whether the store in `lines` lines and the plain program, both empty at first, answer the operations of rows in turn by their replies.
 pub(crate) fn are_answered(
     alloc: Global,
@@ -242,11 +227,13 @@ pub(crate) fn are_answered(
     requires some { 1 ≤ lines }
     requires few { lines ≤ 64 }
 {
-    are_answered_with(alloc, lines, &mut Pairs::new(alloc), rows)
+    let mut mem = memory(alloc, lines)?;
+    let mut pairs = Pairs::new(alloc);
+    both_answer(alloc, &DocStore::of(lines), &mut mem, &mut pairs, rows)
 }
 
 // 19 pairs of three lines each, and k19 of six lines: with them, all 63 lines behind the header are in use.
-static FULL: [(Row, Row); 27] = [
+static FULL: [(Row, Row); 30] = [
     ((1, "k00", "0", 0), (1, "", "", 0)),
     ((1, "k01", "0", 0), (1, "", "", 0)),
     ((1, "k02", "0", 0), (1, "", "", 0)),
@@ -278,9 +265,12 @@ static FULL: [(Row, Row); 27] = [
     // there is no room for a new key
     ((1, "k20", "0", 0), (9, "", "", 0)),
     ((3, "k20", "", 1), (9, "", "", 0)),
+    ((4, "k20", "", 0), (4, "", "", 0)),
+    ((6, "", "", 0), (11, "", "", 20)),
     // a shorter document of k19 makes room for it
     ((1, "k19", "0", 0), (2, "", "", 0)),
     ((1, "k20", "0", 0), (1, "", "", 0)),
+    ((3, "k18", "", 7), (6, "", "", 7)),
     ((6, "", "", 0), (11, "", "", 21)),
     ((5, "k18", "", 0), (10, "k19", "", 0)),
     ((4, "k20", "", 0), (5, "", "0", 0)),

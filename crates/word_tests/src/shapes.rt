@@ -7,7 +7,7 @@ ghost use Rattle.avl_words.specs.Lines.{IsPartLength};
 use crate::holds::holds;
 use index_validation::{InOrder, is_balanced};
 
-// Four lines: the second is a node over the first and the third.
+// Four lines, counted from 0: line 2 is a node over lines 1 and 3.
 const TREE: [u64; 32] = [
     0, 2, 0, 0, 0, 0, 0, 0, // the header
     0, 0, 1, 0, 0, 0, 0, 0, // a leaf
