@@ -3,8 +3,8 @@
 //! that knows nothing of the construction judges their reports: `tools/tests/whole_lives.py`.
 //!
 //! The lives are those of documents and of counters. Then clients share the callers of a service: one after another, on threads of their own, with a
-//! caller that is stopped, as a server has them, and where one catches up with another. The queue is called over words and on a service. The crate has
-//! tests alone.
+//! caller that is stopped, as a server has them, and where one catches up with another. The object that is there to be copied is called over words, and
+//! the queue over words and on a service. The crate has tests alone.
 #![tactic(auto)]
 
 #[cfg(test)]
@@ -16,7 +16,11 @@ mod counter_lives;
 #[cfg(test)]
 mod gates;
 #[cfg(test)]
+mod highest;
+#[cfg(test)]
 mod holds;
+#[cfg(test)]
+mod objects;
 #[cfg(test)]
 mod pool_starts;
 #[cfg(test)]

@@ -45,6 +45,8 @@ mod starts;
 #[cfg(test)]
 mod stops;
 #[cfg(test)]
+mod submits;
+#[cfg(test)]
 mod sum_calls;
 #[cfg(test)]
 mod tasks;
