@@ -67,9 +67,6 @@ from tutorial_tests import Tutorial
 from wrong_reports import NUMBERED, RIGHT_NUMBERS, ROWS, WRONG, WRONG_NUMBERS, legal_rows, numbered_report, row
 
 MUST_RUN = FOR_THE_GATE in sys.argv
-if not MUST_RUN:
-    # the gate compares no two revisions
-    from clause_tests import ClauseComparisons
 
 HEAD = b"lines 64\nlife 1 power 0\n"
 # rows whose report is one of many: clients that are stopped or give up, and reads whose places are free
