@@ -1,4 +1,4 @@
-"""Sources as items: what crates define in src/ and specs/, without comments and layout, for the tools that compare and count it."""
+"""Sources as items: what crates define in src/ and specs/, without comments and layout, for the tools that read names and count clauses."""
 import re
 from pathlib import Path
 from typing import NamedTuple
@@ -9,7 +9,6 @@ TOKEN = re.compile(
 NAME = re.compile(r"[^\W\d]")
 OPEN, CLOSE = "([{", ")]}"
 COMMENT = re.compile(r"(?:^|(?<=\s))--(?:\s.*|$)", re.M)
-ITEMS = ("fn", "struct", "enum", "union", "trait", "impl", "type", "const", "static", "mod", "use", "ghost")
 BEFORE_FN = ("const", "unsafe", "async", "extern")
 
 
@@ -27,9 +26,6 @@ class Item(NamedTuple):
     comment: str
     uses: dict
     line: int
-
-    def path(self):
-        return (self.crate, *self.module, *([self.inside] if self.inside else []), self.name)
 
 
 def tokens_of(text):
@@ -89,7 +85,6 @@ class Reader:
         self.lines = text.split("\n")
         pairs = tokens_of(text)
         self.words, self.at_lines = [word for word, _ in pairs], [line for _, line in pairs]
-        self.shared = []
 
     def comment_above(self, at):
         """The doc comment above the line of a token."""
@@ -141,8 +136,6 @@ class Reader:
                 stop = close_of(words, stop) if words[stop] in OPEN else stop + 1
             for name, path in used_names(words[at + 1 + (word == "ghost") : stop]).items():
                 self.uses.setdefault(name, path)
-                if public and word == "use":
-                    self.shared.append((name, path))
             return stop + 1
         closed = close_of(words, stop) if stop < len(words) and words[stop] == "{" else stop + 1
         if word in ("ghost", "type", "const", "static"):
@@ -229,14 +222,12 @@ KINDS = ("abbrev", "pub", "record", "data", "unfoldable", "opaque")
 
 
 def read_definitions(crate, module, text):
-    """The definitions of a file of specs/, each with its type and its equations, and the paths of the names that it hands on."""
-    found, uses, order, shared = {}, {}, [], {}
+    """The definitions of a file of specs/, each with its type and its equations."""
+    found, uses, order = {}, {}, []
     for line, block in blocks_of(without_comments(text)):
         words = [word for word, _ in tokens_of(block.replace("//", "/ /"))]
         if words[:1] == ["use"] or words[:2] == ["pub", "use"]:
-            names = used_names(words[words.index("use") + 1 :])
-            uses.update(names)
-            shared.update(names if words[0] == "pub" else {})
+            uses.update(used_names(words[words.index("use") + 1 :]))
             continue
         if words[:1] == ["unfolding"]:
             # the names that a proof unfolds stand in the first line
@@ -257,80 +248,21 @@ def read_definitions(crate, module, text):
         kinds, line, words = found[name]
         tokens = (*(kind for kind in kinds if kind != "pub"), *words)
         items.append(Item("spec", crate, module, "", name, "pub" in kinds, tokens, (), "", uses, line))
-    return items, shared
+    return items
 
 
 class Sources:
-    """All items of a checkout, and what names mean."""
+    """All items of a checkout but those of tests' crates."""
 
-    def __init__(self, top, with_tests=False):
-        self.items, self.shared, self.handed_on, self.crates = [], {}, {}, []
+    def __init__(self, top):
+        self.items, self.crates = [], []
         for folder in sorted((Path(top) / "crates").iterdir()):
-            if not (folder / "src").is_dir() or (folder.name.endswith("_tests") and not with_tests):
+            if not (folder / "src").is_dir() or folder.name.endswith("_tests"):
                 continue
             self.crates.append(folder.name)
             for path in sorted((folder / "src").rglob("*.rt")):
-                self.read_source(folder, path)
+                module = path.relative_to(folder / "src").with_suffix("").parts
+                self.items += Reader(folder.name, () if module == ("lib",) else module, path.read_text(encoding="utf-8")).read()
             for path in sorted((folder / "specs").rglob("*.antt")):
                 module = path.relative_to(folder / "specs").with_suffix("").parts
-                found, shared = read_definitions(folder.name, module, path.read_text(encoding="utf-8"))
-                self.items += found
-                self.handed_on.update({(folder.name, module, name): target for name, target in shared.items()})
-        self.by_name = {}
-        for item in self.items:
-            if item.kind != "fn" and (not item.inside or item.kind == "const"):
-                self.by_name.setdefault((item.crate, item.kind == "spec", item.name), []).append(item)
-
-    def read_source(self, folder, path):
-        module = path.relative_to(folder / "src").with_suffix("").parts
-        reader = Reader(folder.name, () if module == ("lib",) else module, path.read_text(encoding="utf-8"))
-        self.items += reader.read()
-        for name, target in reader.shared:
-            self.shared[folder.name, name] = (folder.name, target)
-
-    def defined(self, crate, spec, path):
-        """The item of a path: its last part is the name, those before it the modules."""
-        found = self.by_name.get((crate, spec, path[-1]), [])
-        return next((item for item in found if item.module == tuple(path[:-1])), found[0] if found else None)
-
-    def reached(self, crate, path, deep=0):
-        """The item that a path leads to from a crate, and the name that is shown for it; none of another's."""
-        if path[0] == "Rattle" and len(path) > 3 and path[2] == "specs":
-            rest = path[3:]
-            if rest[0] != "declared":
-                handed = self.handed_on.get((path[1], tuple(rest[:-1]), rest[-1])) or self.handed_on.get((path[1], ("Lib",), rest[0]))
-                if handed and deep < 8:
-                    whole = (path[1], tuple(rest[:-1]), rest[-1]) in self.handed_on
-                    return self.reached(crate, handed if whole else (*handed, *rest[1:]), deep + 1)
-                return self.defined(path[1], True, rest), path[-1]
-            parts = [part for part in rest[1:-1] if part != "TheVariants"]
-            return self.defined(path[1], False, parts) if parts else None, path[-1]
-        if path[0] in ("crate", "self", "super"):
-            path = (crate, *(part for part in path if part not in ("crate", "self", "super")))
-        if path[0] not in self.crates or len(path) < 2:
-            return None, path[-1]
-        item = self.defined(path[0], False, path[1:])
-        if item is None and deep < 8 and (path[0], path[-1]) in self.shared:
-            return self.reached(*self.shared[path[0], path[-1]], deep + 1)
-        return item, path[-1]
-
-    def meaning(self, item, name):
-        """The item that a name stands for in another's text, and the name that is shown."""
-        if name in item.uses:
-            return self.reached(item.crate, item.uses[name])
-        if item.kind == "spec":
-            found = [other for other in self.by_name.get((item.crate, True, name), []) if other.module == item.module]
-        else:
-            found = self.by_name.get((item.crate, False, name), [])
-        return (found[0] if found else None), name
-
-    def led_to(self, item, words, at):
-        """The item that a path in another's text leads to, as `module.Name` or `one::inner::Name`, the name that is shown, and where the path ends."""
-        first = item.uses.get(words[at]) or ((words[at],) if words[at] in (*self.crates, "crate", "self", "super") else None)
-        path, end = first, at + 1
-        while first and end + 1 < len(words) and words[end] == words[at + 1] and NAME.match(words[end + 1]):
-            path, end = (*path, words[end + 1]), end + 2
-            if words[at + 1] == ".":
-                break
-        found, shown = self.reached(item.crate, path) if first and end > at + 1 else (None, words[at])
-        return (found, shown, end) if found else (None, words[at], 0)
+                self.items += read_definitions(folder.name, module, path.read_text(encoding="utf-8"))

@@ -206,9 +206,9 @@ pub const fn far() -> char {
 
 
 class SourceItems(unittest.TestCase):
-    """Sources are read as items, and names are followed to what they mean."""
+    """Sources are read as items, each with the paths of the names that its file brings in."""
 
-    def test_items_and_what_they_mean(self):
+    def test_items_and_their_names(self):
         files = {
             "one/src/lib.rt": "mod inner;\npub use inner::Kept;\n#[cfg(test)]\nmod tests {\n    pub fn hidden() {}\n}\n",
             "one/src/inner.rt": INNER,
@@ -222,8 +222,7 @@ class SourceItems(unittest.TestCase):
         self.assertEqual([("", "far"), ("Two", "held"), ("trait Gate", "pass")], public)
         self.assertIn(("Iterator for Two", "next"), functions)
         self.assertEqual("true } }", " ".join(functions["trait Gate", "pass"].tokens)[-8:])
-        kept, shown = sources.meaning(functions["Two", "held"], "Held")
-        self.assertEqual((("one", "inner", "Kept"), "Kept"), (kept.path(), shown))
+        self.assertEqual(("one", "Kept"), functions["Two", "held"].uses["Held"])
 
     def test_definitions_with_their_equations(self):
         text = "use Rattle.two.specs.A.{◌≡◌,\n  B as C}\n\n-- one\nabbrev pub one : ℕ → ℕ\none zero = C\none (suc n) =\n    n -- less\n\n"
@@ -234,16 +233,4 @@ class SourceItems(unittest.TestCase):
         self.assertEqual(["B", "Two", "four", "one", "three"], sorted(found))
         self.assertEqual("abbrev one : ℕ → ℕ one zero = C one ( suc n ) = n", " ".join(found["one"].tokens))
         self.assertEqual((True, True, False), (found["one"].public, found["Two"].public, found["three"].public))
-        self.assertEqual((found["B"], "B"), sources.meaning(found["one"], "C"))
-
-    def test_names_that_are_handed_on(self):
-        files = {f"{crate}/src/lib.rt": "" for crate in ("one", "two", "three")}
-        files["one/specs/A.antt"] = "pub B : ℕ\nB = 1\n"
-        files["two/specs/Lib.antt"] = "pub use Rattle.one.specs.A\n"
-        files["two/specs/Own.antt"] = "pub use Rattle.one.specs.A.{B as D}\n"
-        files["three/specs/C.antt"] = "use Rattle.two.specs.A.{B}\nuse Rattle.two.specs.Own.{D as E}\npub C : B\nC = E\n"
-        with tempfile.TemporaryDirectory() as folder:
-            sources = Sources(laid_out(folder, files))
-        found = {item.name: item for item in sources.items}
-        for name in ("B", "E"):
-            self.assertEqual((found["B"], "B"), sources.meaning(found["C"], name))
+        self.assertEqual(("Rattle", "two", "specs", "A", "B"), found["one"].uses["C"])
