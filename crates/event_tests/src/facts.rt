@@ -3,101 +3,108 @@
 use crate::board::{Board, Row};
 use cx_core::{Local, OBJECT_START, Protection, Scan, SeenNeed, SeenOffer, WonCode};
 
-/// The words of a region.
+/// The number of words of a region, which is one replica.
 pub const REGION: usize = 1680;
 
-/// The place of the last word of a region, as events have it.
+/// The address of the last word of a region, counted from 0, as the steps take addresses.
 pub const LAST_ADDRESS: u64 = REGION as u64 - 1;
 
-/// Words of a region by their places; the others are 0.
+/// Some words of a region as pairs: the address, counted from 0, and the word there. All words that are not listed are 0.
 pub type Words = &'static [(usize, u64)];
 
-/// The place of Tally's version, which is 7: the first word of the object's part of a region.
+/// The address of Tally's version, which is 7. It is the first word of the object's part of a region. Tally is the object of these tests: a sum.
 pub const VERSION_AT: usize = OBJECT_START as usize;
 
-/// The place of Tally's sum, behind the version.
+/// The address of Tally's sum, the word after its version.
 pub const SUM_AT: usize = VERSION_AT + 1;
 
-/// The place of Tally's sum, as events have it.
+/// The address of Tally's sum, as the steps take addresses.
 pub const SUM_ADDRESS: u64 = OBJECT_START + 1;
 
-/// The full image of the first base.
+/// The words of a region before the first entry, at place 0: the version alone is not 0.
 pub const IMAGE_0: Words = &[(VERSION_AT, 7)];
 
-/// The full image after the first entry of caller 0, which adds 5: the place, this caller's number and its reply, the version and the sum.
+/// The words of a region after the first entry of caller 0, which adds 5. In this order: the place, the number of caller 0's last entry, the first
+/// word of its reply, the version and the sum.
 pub const IMAGE_1: Words = &[(0, 1), (8, 1), (9, 5), (VERSION_AT, 7), (SUM_AT, 5)];
 
 /// A row, and a fact that holds of the board after its event.
 pub type SeenRow = (Row, Fact);
 
-/// A fact of a board, with the values that a row or a part of a script wants.
+/// A fact of a board, with the values that it has to have. A board is the state that the steps of a test change.
 #[derive(Clone, Copy)]
 pub enum Fact {
-    /// The lock words.
+    /// The lock word of each replica, that of replica 0 first.
     Locks(&'static [u64]),
     /// The lock word of replica 0.
     FirstLock(u64),
-    /// What VOL and PER hold of a replica.
+    /// The number of a replica, its words in VOL as stores left them, and its words in PER, which are durable.
     Replica(u32, Words, Words),
     /// The words of the first four link slots.
     Links([u64; 4]),
-    /// A word of the cells by its place.
+    /// The index of a word among the words of all cells, which have 145 each, and the word.
     CellWord(usize, u64),
-    /// The offer word of a cell.
+    /// The number of a cell, and its offer word.
     OfferWord(usize, u64),
-    /// A word of the sets by its place.
+    /// The index of a word among the write sets of all cells, which have 513 words each, and the word.
     SetWord(usize, u64),
-    /// A word of the ring of gaps by its place.
+    /// The index of a word in the ring of gaps, whose slots have 16 words each, and the word.
     GapWord(usize, u64),
-    /// FREE.
+    /// FREE, the ticket below which cells may be written again.
     Free(u64),
-    /// LOW, FREE, and the needs of two callers.
+    /// In this order: LOW, FREE, the NEED of caller 0 and the NEED of caller 1.
     Ring([u64; 4]),
-    /// CUR and DUR, and what each of two callers has won with.
+    /// CUR and DUR; then, for caller 0 and for caller 1, the root code that it put into CUR, with the code that it replaced. `None` stands for a
+    /// caller that put none there, or has retired it by the step `Retire`.
     Root([u64; 2], [Option<WonCode>; 2]),
     /// The number of callers.
     Callers(usize),
-    /// What a caller knows.
+    /// The number of a caller, and what it knows.
     Of(usize, Known),
 }
 
 /// What a caller knows or did.
 #[derive(Clone, Copy)]
 pub enum Known {
-    /// The refusals met.
+    /// How many refusals it met.
     Met(u64),
-    /// Its front.
+    /// The front: the ticket after the last linked entry, as far as it knows.
     Front(u64),
     /// The steps made.
     Steps(u64),
     /// The ticket of its first entry, where there is one.
     Ticket(Option<u64>),
-    /// Steps, refusals met, and the replica last tried with the word found there.
+    /// In this order: the steps made, the refusals met, the replica that it tried to lock last, and the lock word found there. The last two are 0
+    /// before any try.
     Tried([u64; 4]),
-    /// What its rights are on, exclusive, shared, a passer's mark and downgraded, and the place of the last one.
+    /// The replicas on which it has an exclusive right, a shared right, a passer's mark and a downgraded right, in this order; then the place of
+    /// the downgraded one.
     Rights([Option<u64>; 5]),
     /// The offer word that it loaded last.
     Offer(Option<SeenOffer>),
-    /// The words loaded from the replica that it holds shared, by address.
+    /// The words loaded from the replica that it holds shared, as pairs of address and word.
     Loaded(&'static [(u64, u64)]),
     /// The dirty addresses of the replica that it holds exclusively, and its words.
     Stored(&'static [u64], Words),
     /// The replicas that refused it.
     Refused(&'static [u64]),
-    /// The number of entries answered, of reads answered, the greatest code raised by, the floor and the refusals met.
+    /// In this order: how many entries and how many reads were answered, the greatest root code with which it raised DUR, the floor, and the
+    /// refusals met.
     Counts([u64; 5]),
-    /// The ticket of the first entry answered, with the sum of its reply.
+    /// The ticket of the first entry answered, and the first word of its reply, which is the sum.
     Answered(Option<(u64, u64)>),
-    /// Of a read answered, by its number: its place, the sum of its reply, and how many entries were answered before it.
+    /// The number of an answered read, counted from 0; then its place, the first word of its reply, which is the sum, and how many entries were
+    /// answered before or with it.
     Read(usize, [u64; 3]),
-    /// Its protection, its scan, what the last whole scan found, then the greatest LOW and FREE found, the refusals met, the
-    /// scans ended, and whether the code that it found in CUR is of use.
+    /// Its protection, its running scan, and what the last whole scan found. Then, in this order: the greatest LOW found, the greatest FREE found,
+    /// the refusals met, the scans ended, and 1 where the root code that it found in CUR is still of use, else 0.
     Scans(Protection, Option<Scan>, Option<SeenNeed>, [u64; 5]),
 }
 
 /// Whether a fact holds of a board.
 pub fn is_so(board: &Board, fact: &Fact) -> bool {
     match fact {
+        // Facts of the shared words: a list of words has to be equal, or one word by its index.
         Fact::Locks(words) => board.state.lock() == *words,
         Fact::FirstLock(word) => has_word(board.state.lock(), 0, *word),
         Fact::Replica(r, vol, per) => {
@@ -109,6 +116,7 @@ pub fn is_so(board: &Board, fact: &Fact) -> bool {
         Fact::SetWord(at, word) => has_word(board.state.set(), *at, *word),
         Fact::GapWord(at, word) => has_word(board.state.gap(), *at, *word),
         Fact::Free(free) => board.state.free() == *free,
+        // Facts of several shared words, and of the callers.
         Fact::Ring(words) => is_ring(board, words),
         Fact::Root(codes, wins) => is_root(board, codes, wins),
         Fact::Callers(callers) => board.state.locals().len() == *callers,
@@ -119,23 +127,23 @@ pub fn is_so(board: &Board, fact: &Fact) -> bool {
     }
 }
 
-// Whether a word of a list, by its place, is this one.
+// Whether the word at index `at` of a list is `word`. `false` also where the list ends before.
 fn has_word(words: &[u64], at: usize, word: u64) -> bool {
     words.get(at).copied() == Some(word)
 }
 
-// Whether the first words of a list are these.
+// Whether a list begins with the words `first`.
 fn begins_with(words: &[u64], first: &[u64]) -> bool {
     words.get(..first.len()) == Some(first)
 }
 
-// Whether a replica has these words.
+// Whether replica `r` has the words `given`. `words` are those of all replicas, one after another.
 fn has_region(words: &[u64], r: u32, given: Words) -> bool {
     let from = REGION * r as usize;
     are_words(words.get(from..from + REGION).unwrap_or(&[]), given)
 }
 
-/// Whether the words of a region are these at these places, and 0 elsewhere.
+/// Whether `words` are a whole region, with the words `given` at their addresses and 0 at all others.
 pub fn are_words(words: &[u64], given: &[(usize, u64)]) -> bool {
     for (at, word) in words.iter().enumerate() {
         if *word != word_at(given, at) {
@@ -145,7 +153,7 @@ pub fn are_words(words: &[u64], given: &[(usize, u64)]) -> bool {
     words.len() == REGION
 }
 
-// The word that a list gives at a place, or 0.
+// The word that `given` has for the address `at`, or 0 where it lists none.
 fn word_at(given: &[(usize, u64)], at: usize) -> u64 {
     for (place, word) in given {
         if *place == at {
@@ -155,14 +163,14 @@ fn word_at(given: &[(usize, u64)], at: usize) -> u64 {
     0
 }
 
-// Whether LOW, FREE and the needs of the first two callers are these words.
+// Whether LOW, FREE, the NEED of caller 0 and the NEED of caller 1 are these four words, in this order.
 fn is_ring(board: &Board, words: &[u64; 4]) -> bool {
     board.state.low() == words[0]
         && board.state.free() == words[1]
         && begins_with(board.state.need(), &words[2..])
 }
 
-// Whether CUR and DUR are these codes, and the first two callers have won with these.
+// Whether CUR and DUR are the two `codes`, and the root codes that callers 0 and 1 put into CUR and have not retired are the two `wins`.
 fn is_root(board: &Board, codes: &[u64; 2], wins: &[Option<WonCode>; 2]) -> bool {
     board.state.cur() == codes[0]
         && board.state.dur() == codes[1]
@@ -170,7 +178,8 @@ fn is_root(board: &Board, codes: &[u64; 2], wins: &[Option<WonCode>; 2]) -> bool
         && won(board, 1) == wins[1]
 }
 
-// The code that a caller has won with.
+// The root code that a caller put into CUR, with the code that it replaced. `None` where it put none there or has retired it, and for no such
+// caller.
 fn won(board: &Board, caller: usize) -> Option<WonCode> {
     match board.state.locals().get(caller) {
         None => None,
@@ -178,13 +187,14 @@ fn won(board: &Board, caller: usize) -> Option<WonCode> {
     }
 }
 
-// Whether this is what a caller knows or did.
+// Whether what `local` says of a caller has the values of `known`.
 fn is_known(local: &Local, known: &Known) -> bool {
     match known {
         Known::Met(met) => local.met == *met,
         Known::Front(front) => local.front == *front,
         Known::Steps(steps) => local.steps == *steps,
         Known::Ticket(ticket) => first_ticket(local) == *ticket,
+        // Facts whose values stand in several fields of `local`.
         Known::Tried(tried) => tried_by(local) == *tried,
         Known::Rights(rights) => rights_of(local) == *rights,
         Known::Offer(seen) => local.seen_offer == *seen,
@@ -203,7 +213,7 @@ fn is_known(local: &Local, known: &Known) -> bool {
     }
 }
 
-// The ticket of a caller's first entry.
+// The ticket of a caller's first linked entry. `None` where it linked none.
 fn first_ticket(local: &Local) -> Option<u64> {
     match local.own.as_slice().first() {
         None => None,
@@ -211,7 +221,8 @@ fn first_ticket(local: &Local) -> Option<u64> {
     }
 }
 
-// A caller's steps, the refusals that it met, and the replica that it tried last with the word found there.
+// A caller's steps, the refusals that it met, the replica that it tried to lock last, and the lock word found there. The last two are 0 before any
+// try.
 fn tried_by(local: &Local) -> [u64; 4] {
     match local.seen_lock {
         None => [local.steps, local.met, 0, 0],
@@ -219,7 +230,7 @@ fn tried_by(local: &Local) -> [u64; 4] {
     }
 }
 
-// The replica that a caller holds exclusively.
+// The number of the replica that a caller holds exclusively.
 fn exclusive_on(local: &Local) -> Option<u64> {
     match &local.exclusive {
         None => None,
@@ -227,7 +238,7 @@ fn exclusive_on(local: &Local) -> Option<u64> {
     }
 }
 
-// The replica that a caller holds shared.
+// The number of the replica that a caller holds shared.
 fn shared_on(local: &Local) -> Option<u64> {
     match &local.shared {
         None => None,
@@ -235,7 +246,8 @@ fn shared_on(local: &Local) -> Option<u64> {
     }
 }
 
-// The replicas on which a caller has rights: exclusive, shared, a passer's mark and downgraded, and the place of the last one.
+// The replicas on which a caller has an exclusive right, a shared right, a passer's mark and a downgraded right; then the place of the downgraded
+// one.
 fn rights_of(local: &Local) -> [Option<u64>; 5] {
     let (exclusive, shared) = (exclusive_on(local), shared_on(local));
     match local.downgraded {
@@ -250,7 +262,7 @@ fn rights_of(local: &Local) -> [Option<u64>; 5] {
     }
 }
 
-// Whether a caller has loaded these words, by address, from the replica that it holds shared.
+// Whether a caller holds a replica shared, and has loaded from it these `words`: pairs of address and word, in the order of the loads.
 fn has_loaded(local: &Local, words: &[(u64, u64)]) -> bool {
     match &local.shared {
         None => false,
@@ -258,7 +270,7 @@ fn has_loaded(local: &Local, words: &[(u64, u64)]) -> bool {
     }
 }
 
-// Whether a caller has these dirty addresses and these words in the replica that it holds exclusively.
+// Whether a caller holds a replica exclusively, which has these `words` and, stored and not yet durable, the addresses `dirty`.
 fn has_stored(local: &Local, dirty: &[u64], words: Words) -> bool {
     match &local.exclusive {
         None => false,
@@ -266,7 +278,7 @@ fn has_stored(local: &Local, dirty: &[u64], words: Words) -> bool {
     }
 }
 
-// How many entries and reads of a caller were answered, the greatest code that it raised by, its floor, and the refusals that it met.
+// How many entries and reads of a caller were answered, the greatest root code with which it raised DUR, its floor, and the refusals that it met.
 fn counts_of(local: &Local) -> [u64; 5] {
     [
         local.answered.len() as u64,
@@ -277,7 +289,7 @@ fn counts_of(local: &Local) -> [u64; 5] {
     ]
 }
 
-// The ticket of a caller's first entry that was answered, and the first word of the reply.
+// The ticket of a caller's first answered entry, and the first word of the reply. `None` where none was answered.
 fn first_answer(local: &Local) -> Option<(u64, u64)> {
     match local.answered.as_slice().first() {
         None => None,
@@ -285,7 +297,8 @@ fn first_answer(local: &Local) -> Option<(u64, u64)> {
     }
 }
 
-// Whether a caller's read with number `i` has this place, this first word of its reply, and this many entries answered before it.
+// Whether a caller's answered read with number `i` has the `wanted` values: its place, the first word of its reply, and how many entries were
+// answered before or with it.
 fn has_read(local: &Local, i: usize, wanted: &[u64; 3]) -> bool {
     match local.seen_reads.as_slice().get(i) {
         None => false,
@@ -293,7 +306,8 @@ fn has_read(local: &Local, i: usize, wanted: &[u64; 3]) -> bool {
     }
 }
 
-// The greatest LOW and FREE that a caller found, the refusals that it met, the scans that it ended, and 1 where its code of CUR is of use, or else 0.
+// The greatest LOW and the greatest FREE that a caller found, the refusals that it met and the scans that it ended; then 1 where the root code that
+// it found in CUR is still of use, else 0.
 fn scan_counts(local: &Local) -> [u64; 5] {
     [
         local.seen_low,
