@@ -1,4 +1,4 @@
-//! The core of the tests, over the first base of Tally, and its steps by rows of events.
+//! The state on which the tests make steps: shared words and local states of callers, over the first base of Tally, an object with a running sum.
 
 ghost use Rattle.std.specs.Prelude.{◌≤◌};
 ghost use Rattle.cx_base.specs.Tally.{IsTally};
@@ -15,14 +15,14 @@ pub fn holds(rt: &impl Abort, is_right: bool) {
     assert!(rt; is_right);
 }
 
-/// A core over the first base of Tally, whose regions have 1,680 words.
+/// The state that the steps of a test change, over the first base of Tally. A region, which is one replica, has 1,680 words.
 #[derive(Drop)]
 pub struct Board {
     pub state: CoreState,
     ghost lawful: { LawfulBase 64 IsTally state.base },
 }
 
-/// Caller, kind, and whether the event is allowed.
+/// A step that a test tries: the caller, the kind of step, and whether the step is allowed.
 pub type Row = (u32, Kind, bool);
 
 impl Board {
@@ -37,13 +37,13 @@ impl Board {
         })
     }
 
-    /// Makes an event, and returns whether it was allowed. `Err` means out of memory.
+    /// Makes a step if it is allowed, and returns whether it was. `Err` means out of memory.
     pub fn step(&mut self, alloc: Global, caller: u32, kind: Kind) -> Result<bool, AllocError> {
         apply(alloc, &Tally, &mut self.state, &Event { caller, kind })
     }
 
-    /// Makes the events of rows up to the first that is allowed where its row says that it is not, or the reverse, and returns its
-    /// number. `Err` means out of memory.
+    /// Makes the steps of `rows` in order, and returns the index of the first that is allowed though its row says that it is not, or the reverse;
+    /// `None` if there is no such row. `Err` means out of memory.
     pub fn first_wrong(
         &mut self,
         alloc: Global,
@@ -57,8 +57,8 @@ impl Board {
         Ok(None)
     }
 
-    /// Takes a replica exclusively, stores and persists these words by their places, and downgrades it. It returns
-    /// whether all this was allowed; `Err` means out of memory.
+    /// Caller `caller` takes replica `r` exclusively, stores `words` there, which are pairs of address and word, makes each durable, and downgrades
+    /// its right. It returns whether each of these steps was allowed; `Err` means out of memory.
     pub fn prepare(
         &mut self,
         alloc: Global,

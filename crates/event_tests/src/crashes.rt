@@ -1,4 +1,4 @@
-//! What a loss of power leaves of each state of a race of two publishers, while a third replica has dirty words.
+//! What a loss of power leaves after each step of a race of two callers that publish, while another replica has a dirty word.
 
 ghost use Rattle.std.specs.Prelude.{◌≡◌, ◌%◌, length};
 
@@ -11,14 +11,16 @@ use pmem_model::Medium;
 use std::alloc::{AllocError, Global};
 use std::test::Fail;
 
-// The chain of codes from DUR to CUR after each event of the race.
+// The chain of root codes from DUR to CUR after each of the 12 steps of the race. With two callers, code 4 p + r names replica r at place p.
 static CHAINS: [&[u64]; 12] = [
     &[0],
     &[0],
+    // caller 0 publishes code 5, and then caller 1 publishes code 10
     &[0, 5],
     &[0, 5],
     &[0, 5, 10],
     &[0, 5, 10],
+    // DUR is raised to 5, and then to 10
     &[5, 10],
     &[5, 10],
     &[10],
@@ -27,7 +29,8 @@ static CHAINS: [&[u64]; 12] = [
     &[10],
 ];
 
-// Caller 0 also holds replica 3 with two words stored, of which one is persisted.
+// Caller 0 also takes replica 3 and stores two of its words, of which one is made durable. The sum, 99, stays dirty. Each row: the caller, the
+// step, and whether the step is allowed.
 const DIRTY: [Row; 4] = [
     (0, Kind::TryExclusive { r: 3 }, true),
     (0, Kind::StoreWord { r: 3, i: 0, v: 77 }, true),
@@ -43,11 +46,12 @@ const DIRTY: [Row; 4] = [
     (0, Kind::Persist { r: 3, i: 0 }, true),
 ];
 
-// Choices of a loss of power, and the sum of replica 3 that a choice leaves, which is stored and not persisted: the old one, the new one,
-// or one that no row says.
+// Each row: a choice, the number that picks what a loss of power leaves; then the sum of replica 3 that it leaves, which is dirty: the old value 0,
+// or the new value 99. `None` stands for a value that the row does not say.
 const CHOICES: [(u64, Option<u64>); 3] = [(0, Some(0)), (1, Some(99)), (7, None)];
 
-// The full image after the second entry, of caller 1, which adds 7.
+// The words of a region after both entries, at place 2: caller 0 has added 5, and caller 1 has added 7. Pairs of address and word: the place, the
+// number and reply of caller 0, those of caller 1, the version and the sum.
 const IMAGE_2: Words = &[
     (0, 2),
     (8, 1),
@@ -58,11 +62,13 @@ const IMAGE_2: Words = &[
     (SUM_AT, 12),
 ];
 
-// What a loss of power leaves of the words of all replicas by this choice: those that the medium has not got are dirty.
+// What a loss of power leaves of the words of all replicas by this choice. `vol` has the words as stores left them, and `per` those that are
+// durable; where they differ, the word is dirty, and the choice says what it has then. `Err` means out of memory.
 fn left(alloc: Global, vol: &[u64], per: &[u64], choice: u64) -> Result<Vec<u64>, AllocError>
     requires same { length vol.now ≡ length per.now }
     requires lines { length per.now % 8 ≡ 0 }
 {
+    // The medium holds the durable words, and each word that differs is stored into it and not written back.
     let mut medium = Medium::of(alloc, Vec::from_slice(alloc, per)?)?;
     for at in 0..per.len() {
         if vol[at] != per[at] {
@@ -74,7 +80,8 @@ fn left(alloc: Global, vol: &[u64], per: &[u64], choice: u64) -> Result<Vec<u64>
     Ok(left)
 }
 
-// What a loss of power leaves of the words of all replicas of a state by this choice; empty where they are no whole lines.
+// What a loss of power leaves of the words of all replicas of a state by this choice; empty where the words of the replicas are no whole lines of
+// 8. `Err` means out of memory.
 fn left_of(alloc: Global, state: &CoreState, choice: u64) -> Result<Vec<u64>, AllocError> {
     let (vol, per) = (state.vol(), state.per());
     if vol.len() != per.len() || per.len() % 8 != 0 {
@@ -83,7 +90,7 @@ fn left_of(alloc: Global, state: &CoreState, choice: u64) -> Result<Vec<u64>, Al
     left(alloc, vol, per, choice)
 }
 
-// The full image after the entries with tickets below a place.
+// The words of a region after the first `place` entries of the race, which has two.
 fn image(place: u64) -> Words {
     match place {
         0 => IMAGE_0,
@@ -92,9 +99,11 @@ fn image(place: u64) -> Words {
     }
 }
 
-// Whether words have, in the region that each root code of two callers names, the image after its place.
+// Whether each root code of `chain` is recovered: the replica that it names has in `words`, which are those of all replicas, the words of the
+// code's place.
 fn are_recovered(words: &[u64], chain: &[u64]) -> bool {
     for root in chain {
+        // a root code of two callers is 4 times the place, plus the replica
         let from = REGION * (*root % 4) as usize;
         if !are_words(
             words.get(from..from + REGION).unwrap_or(&[]),
@@ -106,7 +115,8 @@ fn are_recovered(words: &[u64], chain: &[u64]) -> bool {
     true
 }
 
-// Whether each image of a chain is recovered by each choice, and the dirty word is left by some and not by others.
+// Whether, by each of the choices, a loss of power in this state leaves the right words for each root code of `chain`, and leaves in the dirty word
+// of replica 3 the value of the choice's row, if the row says one. `Err` means out of memory.
 fn is_recovered(alloc: Global, state: &CoreState, chain: &[u64]) -> Result<bool, AllocError> {
     for (choice, dirty) in CHOICES {
         let words = left_of(alloc, state, choice)?;
@@ -118,7 +128,8 @@ fn is_recovered(alloc: Global, state: &CoreState, chain: &[u64]) -> Result<bool,
     Ok(true)
 }
 
-// The number of the first event of the race that is not allowed or refused as its row says, or after which some image is not recovered.
+// Makes the steps of the race, and returns the index of the first that is not allowed or refused as its row says, or after which some loss of power
+// leaves wrong words; `None` if there is no such step. `Err` means out of memory.
 fn first_wrong(alloc: Global, board: &mut Board) -> Result<Option<usize>, AllocError> {
     for (i, ((row, _), chain)) in RACE.iter().zip(CHAINS.iter()).enumerate() {
         if board.step(alloc, row.0, row.1)? != row.2 || !is_recovered(alloc, &board.state, chain)? {
@@ -128,7 +139,8 @@ fn first_wrong(alloc: Global, board: &mut Board) -> Result<Option<usize>, AllocE
     Ok(None)
 }
 
-// Whether each event of the race is as it is written, with all images recovered after it.
+// Makes what comes before the race, stores the dirty word, and makes the race. Returns whether each step goes as it is written, and all root codes
+// are recovered after each step of the race. `Err` means out of memory.
 fn races(alloc: Global, board: &mut Board) -> Result<bool, AllocError> {
     if !begins(alloc, board)? || board.first_wrong(alloc, &DIRTY)?.is_some() {
         return Ok(false);
@@ -136,12 +148,14 @@ fn races(alloc: Global, board: &mut Board) -> Result<bool, AllocError> {
     Ok(first_wrong(alloc, board)?.is_none())
 }
 
-// Whether each event of the race of two callers, from the opening state on, is as it is written, with all images recovered after it.
+// Whether, from the opening state of two callers on, each step goes as it is written, and all root codes are recovered after each step of the race.
+// `Err` means out of memory.
 fn is_safe(alloc: Global) -> Result<bool, AllocError> {
     let mut board = Board::open(alloc, 2)?;
     races(alloc, &mut board)
 }
 
+// Asserts that a loss of power after any step of the race leaves each root from DUR to CUR whole.
 #[test]
 fn each_crash_image_of_a_race_is_recovered(rt: HostRuntime) -> Result<(), Fail> {
     holds(&rt, is_safe(rt.alloc())?);

@@ -1,4 +1,5 @@
-//! The first base of Tally, and full steps on it against words written out by hand.
+//! The fresh base of Tally, which is a running sum, and full steps on it against words written out by hand. A full step applies one entry to a
+//! region: the object, the result slot of its caller, and the place.
 
 ghost use Rattle.std.specs.Prelude.{◌≡◌, ◌+◌, ◌↔◌, ◌^◌, ◌<◌, ◌≤◌, IfOk, IsTrue, drop, length, slice_index};
 ghost use Rattle.cx_base.specs.Tally.{IsTally, tally_step};
@@ -18,7 +19,7 @@ use cx_core::{
 use std::alloc::{AllocError, Global};
 use std::test::Fail;
 
-// An entry that adds, or reads where `reads` is 1.
+// The entry of `caller` with this number. Its operation adds `adds` to the sum, or only reads the sum where `reads` is 1.
 fn entry(caller: u32, number: u64, adds: u64, reads: u64) -> Entry {
     let mut op = [0; 144];
     op[0] = adds;
@@ -26,7 +27,9 @@ fn entry(caller: u32, number: u64, adds: u64, reads: u64) -> Entry {
     Entry { caller, number, op }
 }
 
-// The words of a region of Tally after the full step of an entry, with `left` accesses allowed.
+// The words of a region of Tally after the full step of an entry. `left` is how many words may be loaded or stored, `None` without a limit; `Err`
+// comes where they do not suffice. The region has 1680 words, its place is below 2^40, the words from 1168 on are an image of Tally, and the
+// entry's caller is below 8.
 fn stepped(words: Vec<u64>, left: Option<u64>, entry: &Entry) -> Result<Vec<u64>, Halt>
     requires size { length words.items ≡ 1680 }
     requires place { slice_index words.items 0 < 2 ^ 40 }
@@ -39,7 +42,7 @@ fn stepped(words: Vec<u64>, left: Option<u64>, entry: &Entry) -> Result<Vec<u64>
     Ok(memory.into_words())
 }
 
-// Whether the object part of a region is an image of Tally.
+// Whether the object's part of a region, its words from 1168 on, is an image of Tally. `Err` means out of memory.
 fn is_lawful(alloc: Global, words: &[u64]) -> Result<bool, AllocError>
     requires { 1168 ≤ length words.now }
     ensures { IfOk result (λ yes. IsTrue yes ↔ IsTally (drop 1168 words.now)) }
@@ -48,7 +51,8 @@ fn is_lawful(alloc: Global, words: &[u64]) -> Result<bool, AllocError>
     Tally.check(alloc, image)
 }
 
-// The words after the full step of an entry, or its `Halt`, with `left` accesses allowed; `None` where they are no region of Tally.
+// The words after the full step of an entry, or its `Halt`, where `left` loads and stores are allowed. `None` where the words are no region of
+// Tally, its place is 2^40 or more, or the entry's caller is not below 8. The outer `Err` means out of memory.
 fn step(
     alloc: Global,
     words: Vec<u64>,
@@ -65,11 +69,13 @@ fn step(
     Ok(Some(stepped(words, left, entry)))
 }
 
-// Caller, number, what an entry adds, whether it reads, and the words after its full step.
+// Each row: the caller, the number of its entry, what the entry adds, 1 where it only reads, else 0, and the words after its full step, as pairs of
+// address and word.
 type StepRow = (u32, u64, u64, u64, Words);
 
-// Each step is made on what the one before left. Word 0 is the place. The slot of caller c begins at word 8 + 145 c, with the number of its
-// last entry and the sum that it was answered.
+// Each step is made on what the one before left. Columns: the caller, the number of its entry, what the entry adds, 1 where it only reads, else 0,
+// and the words after the step: pairs of address and word. Word 0 is the place. The result slot of caller c begins at word 8 + 145 c, with the
+// number of its last entry and the sum that it was answered.
 static STEPS: [StepRow; 4] = [
     // caller 1 adds 5
     (
@@ -131,7 +137,8 @@ static STEPS: [StepRow; 4] = [
     ),
 ];
 
-// The first step from the fresh base on that is not made, or leaves other words.
+// The index of the first of `rows` whose full step is not made, or leaves other words than the row says, from the fresh base on; `None` if there is
+// no such row. `Err` means out of memory.
 fn first_wrong(alloc: Global, rows: &[StepRow]) -> Result<Option<usize>, AllocError> {
     let mut words = Base::fresh(alloc, &Tally)?.words.into_vec();
     for (i, (caller, number, adds, reads, want)) in rows.iter().enumerate() {
@@ -147,7 +154,8 @@ fn first_wrong(alloc: Global, rows: &[StepRow]) -> Result<Option<usize>, AllocEr
     Ok(None)
 }
 
-// Whether a first full step is made with `left` accesses left. `None` comes where the fresh base is no region.
+// Whether a first full step on the fresh base is made where `left` loads and stores are allowed. `None` comes where the fresh base is no region.
+// `Err` means out of memory.
 fn is_made(alloc: Global, left: u64) -> Result<Option<bool>, AllocError> {
     let words = Base::fresh(alloc, &Tally)?.words.into_vec();
     match step(alloc, words, Some(left), &entry(3, 1, 5, 0))? {
@@ -156,9 +164,9 @@ fn is_made(alloc: Global, left: u64) -> Result<Option<bool>, AllocError> {
     }
 }
 
-// The first number of accesses, below `below`, with which a first full step does not halt or succeed as it should. It makes 151
-// accesses: it loads the place, the sum, the number and 144 words of the reply, and stores the sum, the number, the one word of the
-// reply that differs, and the place.
+// The first number of allowed loads and stores, below `below`, with which a first full step halts or succeeds against what it should; `None` if
+// there is none. It makes 151: it loads the place, the sum, the number and 144 words of the reply, and stores the sum, the number, the one word of
+// the reply that differs, and the place. `Err` means out of memory.
 fn first_other(alloc: Global, below: u64) -> Result<Option<u64>, AllocError> {
     for left in 0..below {
         if is_made(alloc, left)? != Some(151 <= left) {
@@ -168,12 +176,13 @@ fn first_other(alloc: Global, below: u64) -> Result<Option<u64>, AllocError> {
     Ok(None)
 }
 
-// Whether the fresh base is at place 0 with these words.
+// Whether the fresh base is at place 0, and its version alone is not 0. `Err` means out of memory.
 fn is_fresh(alloc: Global) -> Result<bool, AllocError> {
     let base = Base::fresh(alloc, &Tally)?;
     Ok(base.place == 0 && are_words(base.words.as_slice(), IMAGE_0))
 }
 
+// Asserts that the fresh base and the four steps have the words written here, and that a full step takes 151 loads and stores.
 #[test]
 fn full_steps_by_hand(rt: HostRuntime) -> Result<(), Fail> {
     holds(&rt, is_fresh(rt.alloc())?);
@@ -182,7 +191,8 @@ fn full_steps_by_hand(rt: HostRuntime) -> Result<(), Fail> {
     Ok(())
 }
 
-// The laws of the full step and of the full image, at Tally.
+// The laws of the full step and of the full image hold of Tally. `next` is the base after the full step of `entry` on `base`. Then `next` is a
+// lawful base, and the full image of `history` at the place of `base` is the words of `base`.
 fn laws(base: &Base, history: &[Entry], entry: &Entry, next: &Base)
     requires lawful { LawfulBase 64 IsTally base.now }
     requires place { base.now.place < 2 ^ 40 }

@@ -12,7 +12,8 @@ use cx_base::tally::Tally;
 use cx_core::Base;
 use std::test::Fail;
 
-// The law over a base of Tally.
+// For any number of callers and any lawful history that ends at place 2^40 or before: if a crash may keep `kept` of a state, then `kept` is a
+// lawful base of Tally, and its words are the full image of the history at its place.
 fn law(base: &Base)
     requires { LawfulBase 64 IsTally base.now }
     ensures { (callers : ℕ) (history : _) (s : State) (kept : _) → AreLawful base.now.place history → base.now.place + length history ≤ 2 ^ 40 →
@@ -22,6 +23,7 @@ fn law(base: &Base)
     kept_bases_are_lawful(&Tally, base);
 }
 
+// Calls `law` with the fresh base. The test is that the contract of `law` is proved.
 #[test]
 fn recovered_bases_of_tally_are_lawful(rt: HostRuntime) -> Result<(), Fail> {
     law(&Base::fresh(rt.alloc(), &Tally)?);

@@ -1,4 +1,4 @@
-//! The worked row of linking, each kind at its limits, and a script of three callers against tickets written by hand.
+//! The steps that link entries: two callers by hand, each step at its limits, and a script of three callers with tickets written by hand.
 
 use crate::board::{Board, Row, holds};
 use crate::facts::{Fact, Known, SeenRow};
@@ -7,8 +7,10 @@ use cx_core::Kind;
 use std::alloc::{AllocError, Global};
 use std::test::Fail;
 
-// Two callers link an entry each, with what a caller then knows as its front. Caller 1 finds slot 0 taken, and links at slot 1.
+// Two callers link an entry each. Caller 1 finds slot 0 in use, and links at slot 1. Each row: the caller, the step, and whether the step is
+// allowed; then what it leaves: the caller's front, which is the ticket after the last linked entry as far as it knows.
 const TWO_CALLERS: [SeenRow; 9] = [
+    // `WriteCell` stores `v` as word `i` of the caller's cell `j`; `Look` loads the word of link slot `s`; `Link` puts cell `j` at the front
     (
         (0, Kind::WriteCell { j: 0, i: 0, v: 1 }, true),
         Fact::Of(0, Known::Front(0)),
@@ -19,6 +21,7 @@ const TWO_CALLERS: [SeenRow; 9] = [
         (1, Kind::WriteCell { j: 0, i: 0, v: 1 }, true),
         Fact::Of(1, Known::Front(0)),
     ),
+    // caller 1 finds an entry at ticket 0, so that its front is 1; it may link there only once it has looked at slot 1
     ((1, Kind::Look { s: 0 }, true), Fact::Of(1, Known::Front(1))),
     (
         (1, Kind::Link { j: 0 }, false),
@@ -29,8 +32,9 @@ const TWO_CALLERS: [SeenRow; 9] = [
     ((1, Kind::LoadFree, true), Fact::Of(1, Known::Front(2))),
 ];
 
-// Two callers. Cells, words, slots, tickets and callers are tried at their limits and behind them.
+// Steps of two callers at the limits of their arguments and beyond them. Each row: the caller, the step, and whether the step is allowed.
 const LIMITS: [Row; 34] = [
+    // the last word of the last cell is written; there is no cell 16, no word 145 of a cell, and no caller 2
     (
         0,
         Kind::WriteCell {
@@ -67,36 +71,38 @@ const LIMITS: [Row; 34] = [
         },
         false,
     ),
-    // the last slot, and one behind it
+    // slot 31 is the last one of two callers, and there is no slot 32 and no caller 2
     (0, Kind::Look { s: 31 }, true),
     (0, Kind::Look { s: 32 }, false),
     (2, Kind::Look { s: 31 }, false),
     (0, Kind::LoadFree, true),
     (2, Kind::LoadFree, false),
-    // nothing was looked at in slot 0, and the cell has no number
+    // caller 0 has not looked at slot 0; once it has, its cell 0 still has no number of an entry
     (0, Kind::Link { j: 0 }, false),
     (0, Kind::Look { s: 0 }, true),
     (0, Kind::Link { j: 0 }, false),
-    // the next number is 1
+    // the first entry of a caller has the number 1, and not 2; there is no cell 16 and no caller 2
     (0, Kind::WriteCell { j: 0, i: 0, v: 2 }, true),
     (0, Kind::Link { j: 0 }, false),
     (0, Kind::WriteCell { j: 0, i: 0, v: 1 }, true),
     (0, Kind::Link { j: 16 }, false),
     (2, Kind::Link { j: 0 }, false),
     (0, Kind::Link { j: 0 }, true),
-    // the cell is in use, and the entry is not answered
+    // cell 0 is in use, and a second entry is not linked before the first one is answered
     (0, Kind::WriteCell { j: 0, i: 1, v: 1 }, false),
     (0, Kind::WriteCell { j: 1, i: 0, v: 2 }, true),
     (0, Kind::Look { s: 1 }, true),
     (0, Kind::Link { j: 1 }, false),
+    // caller 1 has not looked at slot 0
     (1, Kind::ReadCell { t: 0, k: 0, i: 0 }, false),
     (1, Kind::Look { s: 0 }, true),
-    // a word is read under a confirmed protection
+    // caller 1 reads a word of cell 0, which slot 0 names, only once it has a confirmed protection
     (1, Kind::ReadCell { t: 0, k: 0, i: 144 }, false),
     (1, Kind::Protect { p: 0 }, true),
     (1, Kind::ReadCell { t: 0, k: 0, i: 144 }, false),
     (1, Kind::Confirm, true),
     (1, Kind::ReadCell { t: 0, k: 0, i: 144 }, true),
+    // there is no word 145 of a cell; slot 0 names cell 0 and ticket 0, and neither cell 1 nor tickets 1 and 32; there is no caller 2
     (1, Kind::ReadCell { t: 0, k: 0, i: 145 }, false),
     (1, Kind::ReadCell { t: 0, k: 1, i: 0 }, false),
     (1, Kind::ReadCell { t: 1, k: 0, i: 0 }, false),
@@ -104,13 +110,13 @@ const LIMITS: [Row; 34] = [
     (2, Kind::ReadCell { t: 0, k: 0, i: 0 }, false),
 ];
 
-// The rows above from the opening state on, and what holds after them.
+// Each script: the number of callers, then its parts: the rows above from the opening state on, and what holds after them.
 static SCRIPTS: [Script; 2] = [
     (
         2,
         &[
             Part::Seen(&TWO_CALLERS),
-            // a link word is the ticket times the number of cells, plus the cell, plus 1
+            // the word of a link slot is the ticket times the number of cells, which is 32, plus the number of the cell, plus 1
             Part::Are(&[Fact::Links([1, 49, 0, 0]), Fact::Free(0)]),
         ],
     ),
@@ -119,6 +125,7 @@ static SCRIPTS: [Script; 2] = [
         &[
             Part::Rows(&[&LIMITS]),
             Part::Are(&[
+                // caller 0 has linked an entry, at ticket 0, and caller 1 none
                 Fact::Of(0, Known::Ticket(Some(0))),
                 Fact::Of(1, Known::Ticket(None)),
             ]),
@@ -126,13 +133,15 @@ static SCRIPTS: [Script; 2] = [
     ),
 ];
 
+// Asserts that all steps of the scripts are allowed or refused as their rows say, and that all facts hold.
 #[test]
 fn two_callers_link_and_arguments_are_at_their_limits(rt: HostRuntime) -> Result<(), Fail> {
     holds(&rt, first_wrong(rt.alloc(), &SCRIPTS)?.is_none());
     Ok(())
 }
 
-// Whether each caller in turn may write its number and 19 words into its cell 0: 60 steps.
+// Each of three callers, one after another, writes words 0 to 19 of its cell 0: 60 steps. Returns whether all were allowed. `Err` means out of
+// memory.
 fn announce(alloc: Global, board: &mut Board) -> Result<bool, AllocError> {
     for i in 0..20u32 {
         for caller in 0..3u32 {
@@ -145,7 +154,7 @@ fn announce(alloc: Global, board: &mut Board) -> Result<bool, AllocError> {
     Ok(true)
 }
 
-// Word i of what a caller writes: the number 1, and then words that name the caller and the place.
+// Word `i` of what `caller` writes into its cell: word 0 is the number of its entry, 1; all others tell the caller and `i`.
 fn word_of(caller: u32, i: u32) -> u64 {
     if i == 0 {
         1
@@ -154,7 +163,8 @@ fn word_of(caller: u32, i: u32) -> u64 {
     }
 }
 
-// Whether a caller may look at the slot of ticket `t` and read the first `words` words of cell `k`.
+// `caller` looks at the slot of ticket `t`, and reads the first `words` words of cell `k`. Returns whether all these steps were allowed. `Err`
+// means out of memory.
 fn read(
     alloc: Global,
     board: &mut Board,
@@ -174,8 +184,8 @@ fn read(
     Ok(true)
 }
 
-// Whether a caller may protect every ticket and read words of the entries of all three, which stand in cells 32, 16 and 0: 39
-// steps.
+// `caller` protects all tickets, and reads words of the entries of all three callers, which stand in cells 32, 16 and 0: 39 steps. Returns whether
+// all were allowed. `Err` means out of memory.
 fn read_all(alloc: Global, board: &mut Board, caller: u32) -> Result<bool, AllocError> {
     Ok(
         board.step(alloc, caller, Kind::Protect { p: 0 })?
@@ -186,22 +196,26 @@ fn read_all(alloc: Global, board: &mut Board, caller: u32) -> Result<bool, Alloc
     )
 }
 
-// Caller 2 is first and caller 1 second; caller 0 loses slot 0 and slot 1, and is third.
+// Caller 2 links first and caller 1 second. Caller 0 loses slot 0 and slot 1, and links third. Each row: the caller, the step, and whether the step
+// is allowed; then what it leaves: the caller's front, which is the ticket after the last linked entry as far as it knows.
 static THREE_CALLERS: [SeenRow; 23] = [
     ((0, Kind::Look { s: 0 }, true), Fact::Of(0, Known::Front(0))),
     ((1, Kind::Look { s: 0 }, true), Fact::Of(1, Known::Front(0))),
     ((2, Kind::Look { s: 0 }, true), Fact::Of(2, Known::Front(0))),
+    // caller 2 links at slot 0, and the others lose their tries there, which raises their fronts to 1
     ((2, Kind::Link { j: 0 }, true), Fact::Of(2, Known::Front(1))),
     ((0, Kind::Link { j: 0 }, true), Fact::Of(0, Known::Front(1))),
     ((1, Kind::Link { j: 0 }, true), Fact::Of(1, Known::Front(1))),
     ((0, Kind::Look { s: 1 }, true), Fact::Of(0, Known::Front(1))),
     ((1, Kind::Look { s: 1 }, true), Fact::Of(1, Known::Front(1))),
     ((2, Kind::Look { s: 1 }, true), Fact::Of(2, Known::Front(1))),
+    // caller 1 links at slot 1, and caller 0 loses its try there
     ((1, Kind::Link { j: 0 }, true), Fact::Of(1, Known::Front(2))),
     ((0, Kind::Link { j: 0 }, true), Fact::Of(0, Known::Front(2))),
     ((0, Kind::Look { s: 1 }, true), Fact::Of(0, Known::Front(2))),
     ((2, Kind::Look { s: 1 }, true), Fact::Of(2, Known::Front(2))),
     ((0, Kind::Look { s: 2 }, true), Fact::Of(0, Known::Front(2))),
+    // caller 0 links at slot 2, and callers 1 and 2 learn of that when they look at slot 2
     ((0, Kind::Link { j: 0 }, true), Fact::Of(0, Known::Front(3))),
     ((0, Kind::LoadFree, true), Fact::Of(0, Known::Front(3))),
     ((1, Kind::LoadFree, true), Fact::Of(1, Known::Front(2))),
@@ -216,7 +230,8 @@ static THREE_CALLERS: [SeenRow; 23] = [
     ((2, Kind::Look { s: 2 }, true), Fact::Of(2, Known::Front(3))),
 ];
 
-// Each caller's ticket and steps, 200 in all, the links, and words 0, 1, 19 and 20 of caller 1's entry.
+// What holds after 200 steps: for each caller the ticket of its entry and how many steps it made, the first four link slots, and words 0, 1, 19 and
+// 20 of the entry of caller 1, which stands in cell 16.
 static AFTER_200: [Fact; 11] = [
     Fact::Of(0, Known::Ticket(Some(2))),
     Fact::Of(0, Known::Steps(67)),
@@ -231,7 +246,7 @@ static AFTER_200: [Fact; 11] = [
     Fact::CellWord(145 * 16 + 20, 0),
 ];
 
-// Whether each of three callers in turn may read the entries of all three.
+// Each of three callers, one after another, reads the entries of all three. Returns whether all steps were allowed. `Err` means out of memory.
 fn all_read(alloc: Global, board: &mut Board) -> Result<bool, AllocError> {
     for caller in 0..3u32 {
         if !read_all(alloc, board, caller)? {
@@ -241,8 +256,8 @@ fn all_read(alloc: Global, board: &mut Board) -> Result<bool, AllocError> {
     Ok(true)
 }
 
-// Whether three callers announce, link and read their entries on a board, each step is allowed or refused as it is written, and `AFTER_200`
-// holds then.
+// Three callers write, link and read their entries on a board. Returns whether each step is allowed or refused as it is written, and `AFTER_200`
+// holds at the end. `Err` means out of memory.
 fn link_three(alloc: Global, board: &mut Board) -> Result<bool, AllocError> {
     if !announce(alloc, board)? || !are_seen(alloc, board, &THREE_CALLERS)? {
         return Ok(false);
@@ -250,12 +265,13 @@ fn link_three(alloc: Global, board: &mut Board) -> Result<bool, AllocError> {
     Ok(all_read(alloc, board)? && are_so(board, &AFTER_200))
 }
 
-// Whether three callers announce, link and read their entries from the opening state on as it is written.
+// Three callers write, link and read their entries from the opening state on. Returns whether all goes as it is written. `Err` means out of memory.
 fn links_three(alloc: Global) -> Result<bool, AllocError> {
     let mut board = Board::open(alloc, 3)?;
     link_three(alloc, &mut board)
 }
 
+// Asserts that the script of three callers goes as it is written.
 #[test]
 fn three_callers_in_200_steps(rt: HostRuntime) -> Result<(), Fail> {
     holds(&rt, links_three(rt.alloc())?);

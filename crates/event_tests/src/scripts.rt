@@ -1,4 +1,4 @@
-//! Scripts: rows of events and the facts that hold after them, and a race of two publishers.
+//! Scripts: rows of steps and the facts that hold after them, and a race of two callers that publish.
 
 use crate::board::{Board, Row};
 use crate::facts::{Fact, SeenRow, is_so};
@@ -7,22 +7,24 @@ use std::alloc::{AllocError, Global};
 
 /// A part of a script.
 pub enum Part {
-    /// Lists of rows, one after another.
+    /// Lists of steps, each list after the one before.
     Rows(&'static [&'static [Row]]),
-    /// Rows, each with a fact that holds after it.
+    /// Steps, each with a fact that holds after it.
     Seen(&'static [SeenRow]),
-    /// What comes before the race, and its first events, of which this is the number.
+    /// Two callers link an entry each and get a replica ready to publish; then come this many of the first steps of the race `RACE`.
     Race(usize),
-    /// A caller takes a replica exclusively, stores and persists these words, and downgrades it.
+    /// A caller and a replica, which it takes exclusively; the words, as pairs of address and word, which it stores there and makes durable; then
+    /// it downgrades its right.
     Prepared(u32, u64, &'static [(u64, u64)]),
-    /// Facts that hold of the board.
+    /// Facts that hold at this point of the script.
     Are(&'static [Fact]),
 }
 
-/// The number of callers, 1 to 8, and the parts.
+/// A script: the number of callers, 1 to 8, and its parts in order.
 pub type Script = (u32, &'static [Part]);
 
-/// The numbers of the first script that does not go as it is written, and of its first part that does not. `Err` means out of memory.
+/// Runs scripts, each from the opening state on, up to the first that does not go as it is written. It returns the index of that script, and of the
+/// first part of it that does not; `None` if there is no such script. `Err` means out of memory.
 pub fn first_wrong(
     alloc: Global,
     scripts: &[Script],
@@ -35,7 +37,8 @@ pub fn first_wrong(
     Ok(None)
 }
 
-// The number of the first part that does not go as it is written, from the opening state on.
+// Runs one script of `callers` callers from the opening state on. It returns the index of its first part that does not go as it is written; `None`
+// if all do, and 0 if there are not 1 to 8 callers.
 fn first_wrong_of(
     alloc: Global,
     callers: u32,
@@ -48,7 +51,7 @@ fn first_wrong_of(
     first_wrong_part(alloc, &mut board, parts)
 }
 
-// The number of the first part that does not go as it is written, on this board.
+// Runs `parts` in order on this board. It returns the index of the first that does not go as it is written; `None` if all do.
 fn first_wrong_part(
     alloc: Global,
     board: &mut Board,
@@ -62,7 +65,7 @@ fn first_wrong_part(
     Ok(None)
 }
 
-// Whether a part goes as it is written.
+// Runs one part, and returns whether all its steps are allowed or refused as it says, and all its facts hold.
 fn is_as_written(alloc: Global, board: &mut Board, part: &Part) -> Result<bool, AllocError> {
     match part {
         Part::Rows(lists) => are_as_written(alloc, board, lists),
@@ -73,7 +76,7 @@ fn is_as_written(alloc: Global, board: &mut Board, part: &Part) -> Result<bool, 
     }
 }
 
-// Whether the events of lists of rows are allowed or refused as the rows say.
+// Makes the steps of lists of rows, and returns whether each is allowed or refused as its row says.
 fn are_as_written(alloc: Global, board: &mut Board, lists: &[&[Row]]) -> Result<bool, AllocError> {
     for rows in lists {
         if board.first_wrong(alloc, rows)?.is_some() {
@@ -83,7 +86,7 @@ fn are_as_written(alloc: Global, board: &mut Board, lists: &[&[Row]]) -> Result<
     Ok(true)
 }
 
-// Whether the first `events` events of the race go as they are written.
+// Makes the first `events` steps of the race, and returns whether each is allowed or refused as its row says, and leaves the fact of its row.
 fn races(alloc: Global, board: &mut Board, events: usize) -> Result<bool, AllocError> {
     for (row, fact) in RACE.iter().take(events) {
         if board.step(alloc, row.0, row.1)? != row.2 || !is_so(board, fact) {
@@ -93,7 +96,8 @@ fn races(alloc: Global, board: &mut Board, events: usize) -> Result<bool, AllocE
     Ok(true)
 }
 
-/// Whether the events of rows are allowed or refused as the rows say, and the fact of each row holds after it. `Err` means out of memory.
+/// Makes the steps of `rows`, and returns whether each is allowed or refused as its row says, and leaves the fact of its row. `Err` means out of
+/// memory.
 pub fn are_seen(alloc: Global, board: &mut Board, rows: &[SeenRow]) -> Result<bool, AllocError> {
     for (row, fact) in rows {
         if board.step(alloc, row.0, row.1)? != row.2 || !is_so(board, fact) {

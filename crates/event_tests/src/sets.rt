@@ -1,5 +1,5 @@
-//! The kinds on write sets: each guard failing for one reason, sets that are none refused, and a cell that comes round again beside
-//! a reader.
+//! The steps on write sets: each guard failing for one reason, sets that are no write set of their entry refused, and a cell that is overwritten
+//! while another caller reads.
 
 use crate::board::{Row, holds};
 use crate::facts::{Fact, Known, LAST_ADDRESS, SUM_ADDRESS, SeenRow};
@@ -8,16 +8,19 @@ use crate::scripts::{Part, Script, first_wrong};
 use cx_core::{Kind, SeenOffer};
 use std::test::Fail;
 
-// A cell without an entry has no set.
+// A cell that has no linked entry has no write set. Each row: the caller, the step, and whether the step is allowed.
 const NOTHING_LINKED: [Row; 2] = [
     (0, Kind::WriteSet { j: 0, i: 0, v: 0 }, false),
     (0, Kind::Offer { j: 0 }, false),
 ];
 
-// The set of caller 0's first entry: how many words its full step changes, and an address and a value for each, the sum, the number and
-// the reply of caller 0, and the place.
+// The write set of caller 0's first entry: the number of its pairs, then the address and the value of each. The pairs are the sum, the number and
+// the reply of caller 0, and the place. Each row: the caller, the step, which stores `v` as word `i` of the write set of the caller's cell `j`, and
+// whether it is allowed.
 const FIRST_SET: [Row; 9] = [
+    // four pairs
     (0, Kind::WriteSet { j: 0, i: 0, v: 4 }, true),
+    // address SUM_ADDRESS has 5, address 8 has 1, address 9 has 5, and address 0 has 1
     (
         0,
         Kind::WriteSet {
@@ -36,13 +39,14 @@ const FIRST_SET: [Row; 9] = [
     (0, Kind::WriteSet { j: 0, i: 8, v: 1 }, true),
 ];
 
-// Each refusal has one cause.
+// Writes and offers of write sets. Each row: the caller, the step, and whether the step is allowed. `WriteSet` stores `v` as word `i` of the write
+// set of the caller's cell `j`; `Offer` offers that set. Each refusal has one cause.
 const WRITES: [Row; 24] = [
-    // no such caller, cell or word
+    // there is no caller 2, no cell 16 of a caller, and no word 513 of a write set
     (2, Kind::WriteSet { j: 0, i: 0, v: 0 }, false),
     (0, Kind::WriteSet { j: 16, i: 0, v: 0 }, false),
     (0, Kind::WriteSet { j: 0, i: 513, v: 0 }, false),
-    // no entry in the cell
+    // cell 1 has no linked entry; then the last word of a write set is written
     (0, Kind::WriteSet { j: 1, i: 0, v: 0 }, false),
     (0, Kind::Offer { j: 1 }, false),
     (
@@ -54,22 +58,22 @@ const WRITES: [Row; 24] = [
         },
         true,
     ),
-    // no such caller or cell to offer
+    // there is no caller 2, and no cell 16 of a caller
     (2, Kind::Offer { j: 0 }, false),
     (0, Kind::Offer { j: 16 }, false),
-    // a set of no pairs, and one without the pair of the place
+    // refused: the set of caller 1, which has no pairs, and then the set of caller 0 with three pairs, which lacks that of the place
     (1, Kind::Offer { j: 0 }, false),
     (0, Kind::WriteSet { j: 0, i: 0, v: 3 }, true),
     (0, Kind::Offer { j: 0 }, false),
-    // more pairs than a set has room for
+    // a set has room for 256 pairs, and not for 257
     (0, Kind::WriteSet { j: 0, i: 0, v: 257 }, true),
     (0, Kind::Offer { j: 0 }, false),
     (0, Kind::WriteSet { j: 0, i: 0, v: 4 }, true),
-    // a pair has another value than the full step stores
+    // refused: the pair of the sum has the value 6, where the entry makes it 5
     (0, Kind::WriteSet { j: 0, i: 2, v: 6 }, true),
     (0, Kind::Offer { j: 0 }, false),
     (0, Kind::WriteSet { j: 0, i: 2, v: 5 }, true),
-    // a pair has an address outside the region
+    // refused: the pair of the sum has an address behind the region; then the set is right, and is offered
     (
         0,
         Kind::WriteSet {
@@ -90,47 +94,50 @@ const WRITES: [Row; 24] = [
         true,
     ),
     (0, Kind::Offer { j: 0 }, true),
-    // a set that is offered is not offered nor written again
+    // a set that is offered is neither offered nor written again
     (0, Kind::Offer { j: 0 }, false),
     (0, Kind::WriteSet { j: 0, i: 0, v: 4 }, false),
     (0, Kind::WriteSet { j: 0, i: 512, v: 0 }, false),
 ];
 
-// Each refusal has one cause.
+// Loads of offer words and of words of write sets. Each row: the caller, the step, and whether the step is allowed. `k` is a cell among those of
+// all callers, `t` the ticket of its entry, and `i` a word of its write set. Each refusal has one cause.
 const READS: [Row; 36] = [
-    // slot 1 was looked at last
+    // caller 1 has looked at slot 1 last, which does not name cell 0
     (1, Kind::LoadOffer { k: 0, t: 0 }, false),
     (1, Kind::Look { s: 0 }, true),
-    // there is no confirmed protection
+    // caller 1 has no confirmed protection
     (1, Kind::LoadOffer { k: 0, t: 0 }, false),
     (1, Kind::Protect { p: 0 }, true),
     (1, Kind::LoadOffer { k: 0, t: 0 }, false),
     (1, Kind::Confirm, true),
-    // the offer word was not loaded
+    // caller 1 has not loaded the offer word of cell 0
     (1, Kind::ReadSet { k: 0, t: 0, i: 0 }, false),
-    // another cell, another ticket, no such caller
+    // refused: another cell, other tickets, and caller 2, which there is not; then the offer word is loaded
     (1, Kind::LoadOffer { k: 1, t: 0 }, false),
     (1, Kind::LoadOffer { k: 0, t: 1 }, false),
     (1, Kind::LoadOffer { k: 0, t: 32 }, false),
     (2, Kind::LoadOffer { k: 0, t: 0 }, false),
     (1, Kind::LoadOffer { k: 0, t: 0 }, true),
+    // the first and the last word of the set are read; refused: a word behind the last, another cell, another ticket, and caller 2, which there is
+    // not
     (1, Kind::ReadSet { k: 0, t: 0, i: 0 }, true),
     (1, Kind::ReadSet { k: 0, t: 0, i: 512 }, true),
     (1, Kind::ReadSet { k: 0, t: 0, i: 513 }, false),
     (1, Kind::ReadSet { k: 1, t: 0, i: 0 }, false),
     (1, Kind::ReadSet { k: 0, t: 1, i: 0 }, false),
     (2, Kind::ReadSet { k: 0, t: 0, i: 0 }, false),
-    // caller 1's own entry is not offered
+    // the own entry of caller 1, in cell 16 at ticket 1, is not offered
     (1, Kind::Look { s: 1 }, true),
     (1, Kind::ReadSet { k: 0, t: 0, i: 0 }, false),
     (1, Kind::LoadOffer { k: 16, t: 1 }, true),
     (1, Kind::ReadSet { k: 16, t: 1, i: 0 }, false),
-    // the offer word last loaded is of the other cell
+    // the offer word that caller 1 loaded last is that of cell 16; then it loads that of cell 0
     (1, Kind::Look { s: 0 }, true),
     (1, Kind::ReadSet { k: 0, t: 0, i: 0 }, false),
     (1, Kind::LoadOffer { k: 0, t: 0 }, true),
     (1, Kind::ReadSet { k: 0, t: 0, i: 0 }, true),
-    // without a protection, under one that is stated, and under one above the ticket
+    // refused: loads without a protection, under one that is not confirmed, and under one from ticket 1 on
     (1, Kind::Unprotect, true),
     (1, Kind::LoadOffer { k: 0, t: 0 }, false),
     (1, Kind::ReadSet { k: 0, t: 0, i: 0 }, false),
@@ -143,13 +150,14 @@ const READS: [Row; 36] = [
     (1, Kind::ReadSet { k: 0, t: 0, i: 0 }, false),
 ];
 
-// Caller 0 writes the number of its second entry over its first one in its cell 0.
+// Caller 0 writes the number of its second entry over that of its first one, in its cell 0.
 const OVERWRITE: Kind = Kind::WriteCell { j: 0, i: 0, v: 2 };
 
-// A caller closes the tickets below 2.
+// A caller raises LOW to 2, which closes the tickets below 2.
 const CLOSE: Kind = Kind::CloseLow { target: 2 };
 
-// Caller 0 closes the tickets below 2, scans what both callers need, and opens what neither does.
+// Caller 0 raises LOW to 2, loads NEED of both callers, and raises FREE to the least of 2 and what they need. Each row: the caller, the step, and
+// whether the step is allowed.
 const SCANNED: [Row; 5] = [
     (0, CLOSE, true),
     (0, Kind::Scan { d: 0 }, true),
@@ -158,7 +166,8 @@ const SCANNED: [Row; 5] = [
     (0, Kind::LoadFree, true),
 ];
 
-// Caller 1 reads the first word of the set of ticket 0 under a protection, and caller 0 loads CUR.
+// Caller 1 protects the tickets from 0 on and reads the first word of the write set of ticket 0, and caller 0 loads CUR. Each row: the caller, the
+// step, and whether the step is allowed.
 const READER: [Row; 6] = [
     (1, Kind::Look { s: 0 }, true),
     (1, Kind::Protect { p: 0 }, true),
@@ -168,7 +177,8 @@ const READER: [Row; 6] = [
     (0, Kind::LoadCur, true),
 ];
 
-// The owner may not write the cell again while the reader holds its protection, and the reader reads on.
+// Caller 0 may not overwrite its cell while the protection of caller 1 stands, nor before it scans again, and caller 1 reads on. Each row: the
+// caller, the step, and whether the step is allowed; then FREE after it.
 const KEPT: [SeenRow; 4] = [
     ((0, OVERWRITE, false), Fact::Free(0)),
     ((1, Kind::ReadSet { k: 0, t: 0, i: 8 }, true), Fact::Free(0)),
@@ -176,15 +186,17 @@ const KEPT: [SeenRow; 4] = [
     ((0, OVERWRITE, false), Fact::Free(0)),
 ];
 
-// The cell is written again. Its offer word stands, and offers nothing more.
+// The cell is overwritten. Its offer word stays as it was, and offers nothing more. Each row: the caller, the step, and whether the step is
+// allowed; then what it leaves: the offer word of cell 0, or the offer word that caller 1 loaded last, with its cell and ticket.
 const GIVEN_AGAIN: [SeenRow; 17] = [
     ((0, OVERWRITE, true), Fact::OfferWord(0, 1)),
+    // the write set of an entry that is not linked is neither written nor offered
     (
         (0, Kind::WriteSet { j: 0, i: 0, v: 4 }, false),
         Fact::OfferWord(0, 1),
     ),
     ((0, Kind::Offer { j: 0 }, false), Fact::OfferWord(0, 1)),
-    // a protection below LOW is not confirmed
+    // a protection below LOW, which is 2, is not confirmed, so that caller 1 may not load the offer word nor the set
     ((1, Kind::Protect { p: 0 }, true), Fact::OfferWord(0, 1)),
     ((1, Kind::Confirm, true), Fact::OfferWord(0, 1)),
     (
@@ -203,6 +215,7 @@ const GIVEN_AGAIN: [SeenRow; 17] = [
         Fact::OfferWord(0, 1),
     ),
     ((1, Kind::Unprotect, true), Fact::OfferWord(0, 1)),
+    // caller 0 links its second entry, at ticket 2, and caller 1 protects the tickets from 2 on
     (
         (0, Kind::WriteCell { j: 0, i: 1, v: 3 }, true),
         Fact::OfferWord(0, 1),
@@ -212,7 +225,7 @@ const GIVEN_AGAIN: [SeenRow; 17] = [
     ((1, Kind::Protect { p: 2 }, true), Fact::OfferWord(0, 1)),
     ((1, Kind::Confirm, true), Fact::OfferWord(0, 1)),
     ((1, Kind::Look { s: 2 }, true), Fact::OfferWord(0, 1)),
-    // the offer word in the cell is that of ticket 0
+    // the offer word in the cell is still that of ticket 0, which is 1, so that the set may not be read
     (
         (1, Kind::LoadOffer { k: 0, t: 2 }, true),
         Fact::Of(
@@ -228,12 +241,15 @@ const GIVEN_AGAIN: [SeenRow; 17] = [
         (1, Kind::ReadSet { k: 0, t: 2, i: 0 }, false),
         Fact::OfferWord(0, 1),
     ),
-    // the words of the set are those of ticket 0 still
+    // the words of the set are still those of ticket 0, so that it may not be offered for ticket 2
     ((0, Kind::Offer { j: 0 }, false), Fact::OfferWord(0, 1)),
 ];
 
-// Caller 0, whose second entry adds 3 at ticket 2, changes the four values of the set and offers it, and caller 1 reads it.
+// Caller 0, whose second entry adds 3 at ticket 2, writes the four values of the set anew and offers it, and caller 1 reads it. Each row: the
+// caller, the step, and whether the step is allowed; then what it leaves: a word of the set of cell 0, its offer word, or the offer word that
+// caller 1 loaded last.
 const OFFERED_AGAIN: [SeenRow; 9] = [
+    // the new values of the sum, the number, the reply and the place
     (
         (0, Kind::WriteSet { j: 0, i: 2, v: 15 }, true),
         Fact::SetWord(2, 15),
@@ -251,7 +267,7 @@ const OFFERED_AGAIN: [SeenRow; 9] = [
         Fact::SetWord(8, 3),
     ),
     ((0, Kind::Offer { j: 0 }, true), Fact::OfferWord(0, 3)),
-    // the offer word was loaded before the offer
+    // caller 1 has loaded the offer word before the offer, so that it may not read the set; then it loads the offer word again
     (
         (1, Kind::ReadSet { k: 0, t: 2, i: 0 }, false),
         Fact::Of(
@@ -278,14 +294,16 @@ const OFFERED_AGAIN: [SeenRow; 9] = [
         (1, Kind::ReadSet { k: 0, t: 2, i: 8 }, true),
         Fact::OfferWord(0, 3),
     ),
+    // a set that is offered is not written again
     (
         (0, Kind::WriteSet { j: 0, i: 8, v: 3 }, false),
         Fact::OfferWord(0, 3),
     ),
 ];
 
-// The rows above from the opening state on, and what holds after them.
+// Each script: the number of callers, then its parts: the rows above, and what holds after them.
 static SCRIPTS: [Script; 2] = [
+    // Each guard by itself, from the opening state on. `OfferWord` is a cell and its offer word; `SetWord` is the index of a word and the word.
     (
         2,
         &[
@@ -298,6 +316,7 @@ static SCRIPTS: [Script; 2] = [
                 Fact::SetWord(512, u64::MAX),
                 Fact::Of(1, Known::Offer(None)),
             ]),
+            // after the reads, the offer word that caller 1 loaded last is that of cell 0
             Part::Rows(&[&READS]),
             Part::Are(&[Fact::Of(
                 1,
@@ -309,6 +328,7 @@ static SCRIPTS: [Script; 2] = [
             )]),
         ],
     ),
+    // After the race of two publishers, whose entries are both answered: a cell is read, kept, overwritten and offered again.
     (
         2,
         &[
@@ -328,6 +348,7 @@ static SCRIPTS: [Script; 2] = [
     ),
 ];
 
+// Asserts that all steps of the scripts are allowed or refused as their rows say, and that all facts hold.
 #[test]
 fn sets_are_offered_and_read_and_cells_come_round(rt: HostRuntime) -> Result<(), Fail> {
     holds(&rt, first_wrong(rt.alloc(), &SCRIPTS)?.is_none());
