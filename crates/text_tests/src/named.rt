@@ -1,4 +1,4 @@
-//! Whether records name commands of the lives that they are of.
+//! Whether the lines of records name commands that the lives of the records have.
 
 ghost use Rattle.std.specs.Prelude.{◌≡◌, IsTrue, IfOk, All};
 ghost use Rattle.life_records.specs.Lives.{NameCommands, NamesCommands, Names};
@@ -8,7 +8,8 @@ use doc_text::{JournalLine, Life, LifeRecord, ReadLine};
 use script_text::IndexedLife;
 use std::alloc::{AllocError, Global};
 
-/// Whether there is one record for each life, whose lines name commands of the life. `Err` means out of memory.
+/// Whether there are as many records as lives, and each line of the journal and of the reads of a record names a client and a command that its life
+/// has. `Err` means out of memory.
 pub(crate) fn name_commands(
     alloc: Global,
     lives: &[Life],
@@ -19,6 +20,7 @@ pub(crate) fn name_commands(
     if lives.len() != records.len() {
         return Ok(false);
     }
+    // The record of a life has the same index as the life.
     for (number, report) in records.iter().enumerate() {
         if !names_commands(alloc, &lives[number], report)? {
             return Ok(false);
@@ -27,10 +29,13 @@ pub(crate) fn name_commands(
     Ok(true)
 }
 
+// Whether each line of the journal and of the reads of `report`, the record of `life`, names a client and a command of `life`. `Err` means out of
+// memory.
 fn names_commands(alloc: Global, life: &Life, report: &LifeRecord) -> Result<bool, AllocError>
     ensures { IfOk result (λ name. IsTrue name → NamesCommands life.now report.now) }
 {
     let lent = life.lent();
+    // `ops` finds the operation of a command by its client and its number.
     let ops = IndexedLife::of(alloc, &lent)?;
     Ok(
         names_journal(life, &ops, report.journal.as_slice())
@@ -38,6 +43,7 @@ fn names_commands(alloc: Global, life: &Life, report: &LifeRecord) -> Result<boo
     )
 }
 
+// Whether each line of a journal names a client and a command of `life`. `ops` has the operations of `life`.
 fn names_journal(life: &Life, ops: &IndexedLife<'_, Op>, journal: &[JournalLine]) -> bool
     requires { ops.now ≡ life.now }
     ensures { IsTrue result → All (λ line. Names life.now line.client line.command) journal.now }
@@ -50,6 +56,7 @@ fn names_journal(life: &Life, ops: &IndexedLife<'_, Op>, journal: &[JournalLine]
     true
 }
 
+// Whether each line of the reads of a record names a client and a command of `life`. `ops` has the operations of `life`.
 fn names_reads(life: &Life, ops: &IndexedLife<'_, Op>, reads: &[ReadLine]) -> bool
     requires { ops.now ≡ life.now }
     ensures { IsTrue result → All (λ line. Names life.now line.client line.command) reads.now }
@@ -62,7 +69,7 @@ fn names_reads(life: &Life, ops: &IndexedLife<'_, Op>, reads: &[ReadLine]) -> bo
     true
 }
 
-/// Whether a life has this command of this client.
+/// Whether `life` has a client with number `client`, and this client a command with number `command`. `ops` has the operations of `life`.
 fn names(life: &Life, ops: &IndexedLife<'_, Op>, client: u32, command: u64) -> bool
     requires { ops.now ≡ life.now }
     ensures { IsTrue result → Names life.now client command }

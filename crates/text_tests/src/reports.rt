@@ -1,4 +1,4 @@
-//! The reports of worked lives.
+//! The reports of lives, worked by hand.
 
 use crate::holds::holds;
 use crate::named::name_commands;
@@ -8,7 +8,7 @@ use doc_text::{LifeRecord, Script, read_script, report};
 use std::alloc::{AllocError, Global};
 use std::test::Fail;
 
-/// A script, the records of its lives, and their report. The script's lives are given as many clients as their records have.
+/// A script, the records of its lives, and the report that they have to give. The lives of the script get as many clients as their records have.
 #[derive(Clone, Copy)]
 struct Worked {
     script: &'static [u8],
@@ -33,12 +33,15 @@ life 1 power 0
 0 get a
 ",
     lives: &[(
+        // clients, and the place where the life begins; then its entries: ticket, client, command, reply
         (1, 0),
         &[
             (0, 0, 1, Some(RowReply::New)),
             (1, 0, 2, Some(RowReply::Replaced)),
         ],
+        // reads of client 0: command, place, reply
         &[(3, 2, RowReply::Doc(b"2"))],
+        // clients stopped, and clients without a free cell; then the choice, the entries kept and the documents
         (&[], &[]),
         (0, 2, 1),
     )],
@@ -59,9 +62,12 @@ life 1 power 0
 0 get a
 ",
     lives: &[(
+        // clients, and the place where the life begins; then its entries, of which there are none
         (1, 0),
         &[],
+        // reads of client 0: command, place, reply
         &[(1, 0, RowReply::Absent)],
+        // clients stopped, and clients without a free cell; then the choice, the entries kept and the documents
         (&[], &[]),
         (0, 0, 0),
     )],
@@ -72,7 +78,7 @@ power 0 kept 0 of 0 documents 0
 ",
 };
 
-// An addition to the greatest sum overflows.
+// An addition to the greatest 64-bit integer overflows.
 const END_OF_TYPE: Worked = Worked {
     script: b"\
 lines 64
@@ -82,12 +88,15 @@ life 1 power 0
 0 get k
 ",
     lives: &[(
+        // clients, and the place where the life begins; then its entries: ticket, client, command, reply
         (1, 0),
         &[
             (0, 0, 1, Some(RowReply::Sum(i64::MAX))),
             (1, 0, 2, Some(RowReply::Overflow)),
         ],
+        // reads of client 0: command, place, reply
         &[(3, 2, RowReply::Doc(b"9223372036854775807"))],
+        // clients stopped, and clients without a free cell; then the choice, the entries kept and the documents
         (&[], &[]),
         (0, 2, 1),
     )],
@@ -100,7 +109,7 @@ power 0 kept 2 of 2 documents 1
 ",
 };
 
-// A document that is not a number cannot be added to, and a second deletion finds none.
+// A document that is not a number cannot be added to, a second deletion finds no document, and documents stand in the report as compact text.
 const COMPACT_TEXT: Worked = Worked {
     script: b"\
 lines 64
@@ -112,6 +121,7 @@ life 1 power 0
 0 del a
 ",
     lives: &[(
+        // clients, and the place where the life begins; then its entries: ticket, client, command, reply
         (1, 0),
         &[
             (0, 0, 1, Some(RowReply::New)),
@@ -119,7 +129,9 @@ life 1 power 0
             (2, 0, 4, Some(RowReply::Deleted)),
             (3, 0, 5, Some(RowReply::Absent)),
         ],
+        // reads of client 0: command, place, reply
         &[(2, 1, RowReply::Doc(b"{\"a\":[],\"b\":1}"))],
+        // clients stopped, and clients without a free cell; then the choice, the entries kept and the documents
         (&[], &[]),
         (0, 4, 0),
     )],
@@ -134,7 +146,7 @@ power 0 kept 4 of 4 documents 0
 ",
 };
 
-// The next key above each of some keys, and the number of documents.
+// The least key above each of some keys, and the number of documents.
 const KEYS_AND_COUNT: Worked = Worked {
     script: b"\
 lines 64
@@ -148,11 +160,13 @@ life 1 power 0
 0 count
 ",
     lives: &[(
+        // clients, and the place where the life begins; then its entries: ticket, client, command, reply
         (1, 0),
         &[
             (0, 0, 1, Some(RowReply::New)),
             (1, 0, 2, Some(RowReply::New)),
         ],
+        // reads of client 0: command, place, reply
         &[
             (3, 2, RowReply::Key(b"a")),
             (4, 2, RowReply::Key(b"c")),
@@ -160,6 +174,7 @@ life 1 power 0
             (6, 2, RowReply::Absent),
             (7, 2, RowReply::Number(2)),
         ],
+        // clients stopped, and clients without a free cell; then the choice, the entries kept and the documents
         (&[], &[]),
         (0, 2, 2),
     )],
@@ -176,7 +191,7 @@ power 0 kept 2 of 2 documents 2
 ",
 };
 
-// Puts on condition of a revision, and the revisions of a document. They go on where a key is deleted and put again.
+// Puts that ask for a revision of the document, and reads of its revision. Revisions go on where a key is deleted and put again.
 const REVISIONS: Worked = Worked {
     script: b"\
 lines 64
@@ -191,6 +206,7 @@ life 1 power 0
 0 rev a
 ",
     lives: &[(
+        // clients, and the place where the life begins; then its entries: ticket, client, command, reply
         (1, 0),
         &[
             (0, 0, 1, Some(RowReply::Set(1))),
@@ -200,7 +216,9 @@ life 1 power 0
             (4, 0, 6, Some(RowReply::Deleted)),
             (5, 0, 7, Some(RowReply::New)),
         ],
+        // reads of client 0: command, place, reply
         &[(4, 3, RowReply::Revision(2)), (8, 6, RowReply::Revision(4))],
+        // clients stopped, and clients without a free cell; then the choice, the entries kept and the documents
         (&[], &[]),
         (0, 6, 1),
     )],
@@ -227,11 +245,13 @@ life 2 power 0
 1 add n 1
 ",
     lives: &[(
+        // clients, and the place where the life begins; then its entries: ticket, client, command, reply
         (2, 0),
         &[
             (0, 1, 1, Some(RowReply::Sum(1))),
             (1, 0, 1, Some(RowReply::Sum(2))),
         ],
+        // reads; clients stopped, and clients without a free cell; then the choice, the entries kept and the documents
         &[],
         (&[], &[]),
         (0, 2, 1),
@@ -260,6 +280,7 @@ life 1 power 0
 ",
     lives: &[
         (
+            // clients, and the place where the life begins; then its entries: ticket, client, command, reply
             (2, 0),
             &[
                 (0, 0, 1, Some(RowReply::New)),
@@ -267,18 +288,22 @@ life 1 power 0
                 (2, 0, 2, Some(RowReply::Sum(3))),
                 (3, 1, 2, Some(RowReply::Sum(7))),
             ],
+            // reads; clients stopped, and clients without a free cell; then the choice, the entries kept and the documents
             &[],
             (&[], &[]),
             (1, 4, 3),
         ),
         (
+            // the second life begins at place 4, with no entry of its own
             (1, 4),
             &[],
+            // reads of client 0: command, place, reply
             &[
                 (1, 4, RowReply::Key(b"stock:apple")),
                 (2, 4, RowReply::Doc(b"7")),
                 (3, 4, RowReply::Number(3)),
             ],
+            // clients stopped, and clients without a free cell; then the choice, the entries kept and the documents
             (&[], &[]),
             (0, 0, 3),
         ),
@@ -298,7 +323,8 @@ power 0 kept 0 of 0 documents 3
 ",
 };
 
-// A put that finds no room, and an addition whose client was stopped in it. The life has one client, so the command of client 1 is not done.
+// A put for which the store has no room, and an addition whose client was stopped in it. The record has one client, so that the command of client 1
+// is not done.
 const WITHOUT_ROOM: Worked = Worked {
     script: b"\
 lines 64
@@ -308,8 +334,10 @@ life 2 power 0
 0 add a -1
 ",
     lives: &[(
+        // clients, and the place where the life begins; then its entries: ticket, client, command, and the reply, if it was given
         (1, 0),
         &[(0, 0, 1, Some(RowReply::NoRoom)), (1, 0, 2, None)],
+        // reads; clients stopped, and clients without a free cell; then the choice, the entries kept and the documents
         &[],
         (&[], &[]),
         (0, 2, 0),
@@ -322,7 +350,8 @@ power 0 kept 2 of 2 documents 0
 ",
 };
 
-// Two clients that were stopped: the command of one is linked and kept, that of the other is linked and lost.
+// Two clients that were stopped. The entry of one is kept, and that of the other is lost. In the second life a client was stopped before its first
+// step.
 const STOPPED: Worked = Worked {
     script: b"\
 lines 64
@@ -336,17 +365,21 @@ life 2 power 0
 ",
     lives: &[
         (
+            // clients, and the place where the life begins; then its entries: ticket, client, command, and the reply, if it was given
             (3, 0),
             &[
                 (0, 0, 1, Some(RowReply::New)),
                 (1, 1, 1, None),
                 (2, 2, 1, None),
             ],
+            // reads of client 0: command, place, reply
             &[(2, 1, RowReply::Doc(b"1"))],
             (
+                // clients stopped: client, command, limit of steps, and whether the entry is kept
                 &[(1, 1, 12, true), (2, 1, 18_446_744_073_709_551_614, false)],
                 &[],
             ),
+            // the choice, the entries kept and the documents
             (2, 2, 1),
         ), // A client that was stopped before its first step.
         ((2, 2), &[], &[], (&[(1, 1, 0, false)], &[]), (0, 0, 1)),
@@ -366,13 +399,15 @@ power 0 kept 0 of 0 documents 1
 ",
 };
 
-// A client that ran out of free cells, since one that was stopped keeps them in use.
+// A client that found no cell free, since a stopped client keeps its cells in use. No run of this script gives the record.
 const GAVE_UP: Worked = Worked {
     script: b"\
 lines 64
 life 2 power 0
 0 count
 ",
+    // columns: clients and place; entries; reads; clients stopped; without a free cell (client, command, holder, need, ticket); choice, kept and
+    // documents
     lives: &[((2, 0), &[], &[], (&[], &[(0, 17, 1, 0, 1)]), (0, 0, 0))],
     report: b"\
 life 0 clients 2 from 0
@@ -381,7 +416,7 @@ power 0 kept 0 of 0 documents 0
 ",
 };
 
-// One client that was stopped, and two that ran out of free cells, since the one that was stopped keeps them in use.
+// One client that was stopped, and two that found no cell free, since it keeps their cells in use. No run of this script gives the record.
 const STOPPED_AND_GAVE_UP: Worked = Worked {
     script: b"\
 lines 64
@@ -389,13 +424,17 @@ life 3 power 1
 0 count
 ",
     lives: &[(
+        // clients, and the place where the life begins; no entries; then the reads of client 0: command, place, reply
         (3, 7),
         &[],
         &[(1, 7, RowReply::Number(0))],
         (
+            // clients stopped: client, command, limit of steps, and whether the entry is kept
             &[(1, 2, 40, false)],
+            // clients without a free cell: client, command; then holder, need and ticket of the note that each was given
             &[(0, 2, 1, 7, 8), (2, 1, 1, 7, 18_446_744_073_709_551_615)],
         ),
+        // the choice, the entries kept and the documents
         (1, 0, 0),
     )],
     report: b"\
@@ -408,6 +447,7 @@ power 1 kept 0 of 0 documents 0
 ",
 };
 
+// All cases of this file, in their order.
 static ROWS: [Worked; 13] = [
     NOTHING,
     WRITTEN_AND_READ,
@@ -424,13 +464,14 @@ static ROWS: [Worked; 13] = [
     STOPPED_AND_GAVE_UP,
 ];
 
+// Asserts that the report of each case is exactly the text that stands in it.
 #[test]
 fn writes_worked_reports(rt: HostRuntime) -> Result<(), Fail> {
     holds(&rt, first_wrong(rt.alloc(), &ROWS)?.is_none());
     Ok(())
 }
 
-/// The first row that has another report.
+/// The index of the first row whose records give another report than the row has; `None` if there is none. `Err` means out of memory.
 fn first_wrong(alloc: Global, rows: &[Worked]) -> Result<Option<usize>, AllocError> {
     for (i, row) in rows.iter().enumerate() {
         let records = records_of(alloc, row.lives)?;
@@ -441,7 +482,7 @@ fn first_wrong(alloc: Global, rows: &[Worked]) -> Result<Option<usize>, AllocErr
     Ok(None)
 }
 
-/// Whether a script with these records has this report.
+/// Whether the report of a script with these records is `text`. `false` also where the script is refused. `Err` means out of memory.
 fn is_reported(
     alloc: Global,
     script: &[u8],
@@ -454,7 +495,7 @@ fn is_reported(
     }
 }
 
-/// The script, with as many clients in each life as its record tells.
+/// The script, with as many clients in each life as the record of the life has.
 fn with_clients(script: Script, records: &[LifeRecord]) -> Script {
     let mut lives = script.lives.into_vec();
     for (life, life_report) in lives.iter_mut().zip(records) {
@@ -466,6 +507,7 @@ fn with_clients(script: Script, records: &[LifeRecord]) -> Script {
     }
 }
 
+// Whether the records name commands of the script's lives, and their report is `text`. `Err` means out of memory.
 fn has_report(
     alloc: Global,
     script: &Script,
