@@ -7,10 +7,12 @@ use doc_text::{LifeRecord, summary};
 use std::alloc::{AllocError, Global};
 use std::test::Fail;
 
-/// The documents of the pairs that a life left, and the lines of its summary.
+/// A row: the documents that a life left, and the lines of its summary.
 type Row = (&'static [&'static [u8]], &'static [u8]);
 
+// Each row: the documents, and the four lines that the summary of a life with five clients and no entry has.
 const ROWS: [Row; 4] = [
+    // no document
     (&[], b"clients 5\nupdates 0\ndocuments 0\nsum 0\n"),
     // only integers are summed: 3 and -10
     (
@@ -28,13 +30,14 @@ const ROWS: [Row; 4] = [
     ),
 ];
 
+// Asserts that the summary of each row has its lines.
 #[test]
 fn documents_that_are_integers_are_summed(rt: HostRuntime) -> Result<(), Fail> {
     holds(&rt, first_wrong(rt.alloc(), &ROWS)?.is_none());
     Ok(())
 }
 
-/// The first row whose summary has other lines.
+/// The index of the first row whose summary has other lines; `None` if there is none. `Err` means out of memory.
 fn first_wrong(alloc: Global, rows: &[Row]) -> Result<Option<usize>, AllocError> {
     for (i, (documents, lines)) in rows.iter().enumerate() {
         let pairs = pairs_of(alloc, documents)?;
@@ -45,8 +48,9 @@ fn first_wrong(alloc: Global, rows: &[Row]) -> Result<Option<usize>, AllocError>
     Ok(None)
 }
 
-/// Whether the summary of a life that left these pairs has these lines.
+/// Whether the summary of a life that left these pairs has these lines. `Err` means out of memory.
 fn has_lines(alloc: Global, pairs: &[Pair], lines: &[u8]) -> Result<bool, AllocError> {
+    // Of these numbers the summary writes only the clients; the updates are the entries of the journal, which is empty.
     let report = LifeRecord {
         clients: 5,
         from: 1,
@@ -64,7 +68,7 @@ fn has_lines(alloc: Global, pairs: &[Pair], lines: &[u8]) -> Result<bool, AllocE
     }
 }
 
-/// Pairs with these documents.
+/// Pairs with these documents, in their order, all with the key `k`. `Err` means out of memory.
 fn pairs_of(alloc: Global, documents: &[&[u8]]) -> Result<Vec<Pair>, AllocError> {
     let mut pairs = Vec::new(alloc);
     for document in documents {
@@ -73,6 +77,7 @@ fn pairs_of(alloc: Global, documents: &[&[u8]]) -> Result<Vec<Pair>, AllocError>
     Ok(pairs)
 }
 
+// A pair with the key `k`, this document and revision 1. `Err` means out of memory.
 fn pair_of(alloc: Global, document: &[u8]) -> Result<Pair, AllocError> {
     let key = Bytes::of(alloc, b"k")?;
     let doc = Bytes::of(alloc, document)?;

@@ -7,7 +7,7 @@ use Rattle.life_records.specs.Records.{Life, LifeRecord}
 use Rattle.life_records.specs.Lives.{NameCommands, NamesCommands}
 use Rattle.text_tests.proofs.named.name_commands.Goals as goal
 
--- what is so at each place is so of the lists
+-- where there are as many records as lives, and each record names commands of the life with its number, the records name commands of the lives
 NameCommands-from_places : (lives : List (Life Op)) (records : List (LifeRecord Reply)) → length lives ≡ length records
     → ((n : ℕ) (d : Life Op) (e : LifeRecord Reply) → n < length records → NamesCommands (get_or lives n d) (get_or records n e))
     → NameCommands lives records
@@ -19,7 +19,7 @@ NameCommands-from_places (life ∷ lives) (report ∷ records) same named = (
   NameCommands-from_places lives records (omega arith) (λ n d e below. named (suc n) d e (omega arith)),
 )
 
--- one place more
+-- if the first n records name commands of the lives with their numbers, and record n does, then so do the first n + 1
 at_places_more : (lives : List (Life Op)) (records : List (LifeRecord Reply)) (n : ℕ) (life : Life Op) (report : LifeRecord Reply)
     → n < length lives → n < length records → life ≡ get_or lives n life → report ≡ get_or records n report
     → ((m : ℕ) (d : Life Op) (e : LifeRecord Reply) → m < n → NamesCommands (get_or lives m d) (get_or records m e))
@@ -36,11 +36,13 @@ at_places_more lives records n life report lives_have records_have life_is repor
     (subst (λ (t : LifeRecord Reply). NamesCommands life t) (get_or_read records n report records_have report_is e) here)))
     (cases_lt m n)
 
+-- once the loop has passed all records, they name commands of the lives
 pub returns : goal.returns
 returns c = λ _.
     NameCommands-from_places c.args.lives.now c.args.records.now c.if-lives-records.false
     (λ n d e below. c.loop-number.invariant n d e (omega (arith, c.loop-number-test.false)))
 
+-- if each record up to number `number` names commands of the life with its number, the invariant holds for the next number
 pub loop-number-preserved : goal.loop-number-preserved
 loop-number-preserved c =
     at_places_more c.args.lives.now c.args.records.now c.loop-number.number c.index-lives-number.result c.index-records-number.result
