@@ -28,15 +28,16 @@ const NOTHING_LINKED: [Row; 3] = [
         },
         false,
     ),
-    // refused: line 1, of no ticket; allowed: no line, as 1 follows 0
+    // refused: line 1, of no ticket
     (0, Kind::NoteGap { s: 0, i: 0, v: 2 }, false),
+    // allowed: no line, as 1 follows 0
     (0, Kind::NoteGap { s: 0, i: 0, v: 1 }, true),
 ];
 
 // A gap is allowed where its ticket has changed none of its lines. Ticket 0 changes lines 0, 1 and 146, and ticket 1 lines 0, 19 and 146. Each row:
 // the caller, the step, which stores `v` as word `i` of slot `s`, and whether the step is allowed. Each refusal has one cause.
 const NOTES: [Row; 30] = [
-    // There is no caller 2, no slot 1024, as two callers have 1024 slots, and no word 16, as a slot has 16.
+    // refused: there is no caller 2
     (
         2,
         Kind::NoteGap {
@@ -46,6 +47,7 @@ const NOTES: [Row; 30] = [
         },
         false,
     ),
+    // refused: two callers have slots 0 to 1023
     (
         0,
         Kind::NoteGap {
@@ -55,6 +57,7 @@ const NOTES: [Row; 30] = [
         },
         false,
     ),
+    // refused: a slot has words 0 to 15
     (
         0,
         Kind::NoteGap {

@@ -34,7 +34,7 @@ const TWO_CALLERS: [SeenRow; 9] = [
 
 // Steps of two callers at the limits of their arguments and beyond them. Each row: the caller, the step, and whether the step is allowed.
 const LIMITS: [Row; 34] = [
-    // the last word of the last cell is written; there is no cell 16, no word 145 of a cell, and no caller 2
+    // allowed: the last word of the last cell of a caller
     (
         0,
         Kind::WriteCell {
@@ -44,6 +44,7 @@ const LIMITS: [Row; 34] = [
         },
         true,
     ),
+    // refused: there is no cell 16 of a caller
     (
         0,
         Kind::WriteCell {
@@ -53,6 +54,7 @@ const LIMITS: [Row; 34] = [
         },
         false,
     ),
+    // refused: there is no word 145 of a cell
     (
         0,
         Kind::WriteCell {
@@ -62,6 +64,7 @@ const LIMITS: [Row; 34] = [
         },
         false,
     ),
+    // refused: there is no caller 2
     (
         2,
         Kind::WriteCell {

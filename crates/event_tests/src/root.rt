@@ -268,7 +268,7 @@ static SCRIPTS: [Script; 7] = [
             ]),
         ],
     ),
-    // Reads after the first 5 steps of the race, in which both callers publish.
+    // A read that is refused, after the first 5 steps of the race, in which both callers publish.
     (
         2,
         &[

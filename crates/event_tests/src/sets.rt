@@ -127,9 +127,10 @@ const READS: [Row; 36] = [
     (1, Kind::ReadSet { k: 1, t: 0, i: 0 }, false),
     (1, Kind::ReadSet { k: 0, t: 1, i: 0 }, false),
     (2, Kind::ReadSet { k: 0, t: 0, i: 0 }, false),
-    // the own entry of caller 1, in cell 16 at ticket 1, is not offered
+    // slot 1, looked at last, names cell 16 and not cell 0
     (1, Kind::Look { s: 1 }, true),
     (1, Kind::ReadSet { k: 0, t: 0, i: 0 }, false),
+    // the own entry of caller 1, in cell 16 at ticket 1, is not offered
     (1, Kind::LoadOffer { k: 16, t: 1 }, true),
     (1, Kind::ReadSet { k: 16, t: 1, i: 0 }, false),
     // the offer word that caller 1 loaded last is that of cell 16; then it loads that of cell 0
