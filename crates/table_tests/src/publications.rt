@@ -1,4 +1,5 @@
-//! Replicas that were replayed are published, and the table is closed before the wins are retired.
+//! Replicas that were replayed are published, and the table is closed before the wins are retired. A win is the token of a publication that put its
+//! code into CUR.
 
 ghost use Rattle.std.specs.Prelude.{◌≡◌, ◌*◌, ◌<◌, ◌≤◌, IfOk, IfSome, IsTrue};
 ghost use Rattle.cx_core.specs.RootEvents.{CanPublish};

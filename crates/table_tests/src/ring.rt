@@ -142,7 +142,7 @@ fn is_need_noted(alloc: Global) -> Result<bool, AllocError> {
     )
 }
 
-// Whether a caller that collects makes five steps, or stops where its limit allows fewer.
+// Whether a caller collects in five steps where its limit allows them, and else stops at the limit.
 fn stops_at(alloc: Global, limit: u64) -> Result<bool, AllocError> {
     let (shared, mut first, _second) = made(alloc, 100, &[limit, NO_LIMIT])?;
     let collected = try_collect(&shared, &mut first, 100);

@@ -48,9 +48,8 @@ pub(crate) fn try_one<O: Object>(
     }
 }
 
-// Brings a replica held exclusively up to a ticket: where its place is at most the ticket, the entries are read under a protection,
-// which is released again. Nobody collects cells here, so that no caller is behind, and none has a protection before: one that is, or
-// has, stops as if it was halted.
+// Brings the replica `held` up to a ticket: where its place is at most the ticket, the entries are read under a protection, which is released again.
+// Nobody collects cells here, so that no caller is behind, and none has a protection before: one that is, or has, stops as if it was halted.
 fn replay_protected<O: Object>(
     shared: &Shared<O>,
     seat: &mut CallerSeat,
