@@ -17,12 +17,12 @@ use Rattle.strong_trylock.specs.Held.{AllRights, all_rights, no_rights}
 use Rattle.strong_trylock.specs.Tries.{AnswersExclusive, TriesExclusive}
 use Rattle.table_tests.specs.Turns.{TakesIt}
 
--- leaving out the words of a replica held exclusively changes no number of the replica
+-- a replica held exclusively is the same one where its words are left out
 words_kept : (o : Option HeldExclusive) → option_map (λ (h : HeldExclusive). h.replica) (option_map except_words o) ≡ option_map (λ (h : HeldExclusive). h.replica) o
 words_kept None = refl
 words_kept (Some h) = refl
 
--- leaving out the words that were loaded of a replica held shared changes no number of the replica
+-- a replica held shared is the same one where the words that were loaded of it are left out
 loaded_kept : (r : ℕ) (o : Option HeldShared) → option_map (λ (h : HeldShared). h.replica) (option_map (except_loaded r) o) ≡ option_map (λ (h : HeldShared). h.replica) o
 loaded_kept r None = refl
 loaded_kept r (Some h) = refl

@@ -174,6 +174,7 @@ fn first_wrong(alloc: Global, rows: &[Option<u64>]) -> Result<Option<usize>, All
     Ok(None)
 }
 
+// Each word that a caller stores and flushes is durable, and a copy that finds no difference makes no word dirty.
 #[test]
 fn flushed_words_are_durable_and_copied_ones_clean(rt: HostRuntime) -> Result<(), Fail> {
     holds(&rt, first_wrong(rt.alloc(), &ROWS)?.is_none());

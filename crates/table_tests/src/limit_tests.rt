@@ -125,6 +125,7 @@ fn offered_by(alloc: Global, entry: &Entry, accesses: u64) -> Result<u64, AllocE
     requires { entry.now.caller < 8 }
 {
     let mut before = opening(alloc)?;
+    // the offer, and the word of the set that counts its pairs
     let mut count = 2u64;
     for made in 0..=accesses {
         let (words, _) = stepped(alloc, entry, Some(made))?;
@@ -208,6 +209,7 @@ fn are_right(alloc: Global) -> Result<bool, AllocError> {
     Ok(before == all && most_dirty(alloc, &entry, offered, before)? == Some(stored))
 }
 
+// Each limit of steps before the copy leaves the words, and as many dirty ones, as a plain model has.
 #[test]
 fn each_limit_leaves_the_words_of_the_model(rt: HostRuntime) -> Result<(), Fail> {
     holds(&rt, are_right(rt.alloc())?);

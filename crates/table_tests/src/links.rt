@@ -166,6 +166,7 @@ fn is_left_open(remains: &Remains) -> bool {
         && remains.volatile == remains.durable
 }
 
+// Two callers on threads link an entry each, in at most two tries: an operation of 144 words 5, and one of 144 words 7.
 #[test]
 fn two_threads_link(rt: HostRuntime) -> Result<(), Fail> {
     let alloc = rt.alloc();

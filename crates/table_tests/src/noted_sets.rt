@@ -154,6 +154,7 @@ fn takes_256(alloc: Global, pairs: &[(u64, u64)]) -> Result<bool, AllocError> {
     Ok(full && whole && are_words(&words, pairs))
 }
 
+// Sets are stored pair by pair, as their rows say, and a set holds no more than 256 pairs.
 #[test]
 fn sets_are_stored_in_order(rt: HostRuntime) -> Result<(), Fail> {
     holds(&rt, first_wrong(rt.alloc(), &ROWS)?.is_none());

@@ -1,5 +1,5 @@
 //! Replicas that were replayed are published, and the table is closed before the wins are retired. A win is the token of a publication that put its
-//! code into CUR.
+//! code into CUR; to retire it subtracts 1 from the lock word of the replica that was published before.
 
 ghost use Rattle.std.specs.Prelude.{◌≡◌, ◌*◌, ◌<◌, ◌≤◌, IfOk, IfSome, IsTrue};
 ghost use Rattle.cx_core.specs.RootEvents.{CanPublish};
@@ -97,6 +97,7 @@ fn first_publishes<O: Object>(shared: &Shared<O>, seat: &mut CallerSeat) -> Opti
     let Ok(Some(held)) = link_and_renew(shared, seat, &adds(5), 1) else {
         return None;
     };
+    // CUR has the opening code, which the publication then expects
     let is_opening = shared.load_cur(seat) == Ok(0);
     match publish(shared, seat, held) {
         Ok(Some((0, Ok(won)))) => Some(is_opening && is_won(&won, 5, 0, 0)),
@@ -116,9 +117,11 @@ fn second_publishes<O: Object>(shared: &Shared<O>, seat: &mut CallerSeat) -> Opt
     let Ok(Some(held)) = link_and_renew(shared, seat, &adds(6), 3) else {
         return None;
     };
+    // it expects the opening code, finds that of the first caller, and gives the right back
     let Ok(Some((5, Err(held)))) = publish(shared, seat, held) else {
         return None;
     };
+    // now it expects the code that it found
     match publish(shared, seat, held) {
         Ok(Some((5, Ok(won)))) => Some(is_won(&won, 11, 5, 1)),
         _ => None,
@@ -142,6 +145,7 @@ fn are_handed_out(alloc: Global) -> Result<bool, AllocError> {
     }
 }
 
+// The closing of a table hands out the opening code and the codes of two publications, in rising order.
 #[test]
 fn published_codes_are_handed_out(rt: HostRuntime) -> Result<(), Fail> {
     holds(&rt, are_handed_out(rt.alloc())?);

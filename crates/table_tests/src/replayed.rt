@@ -295,6 +295,7 @@ fn update_and_renew<O: Object>(
     }
 }
 
+// An entry is applied to a replica, as another caller then sees it, and each lower limit of steps stops a caller before that.
 #[test]
 fn entries_are_replayed_unless_a_limit_halts(rt: HostRuntime) -> Result<(), Fail> {
     let alloc = rt.alloc();

@@ -165,6 +165,7 @@ fn first_wrong_limit(alloc: Global) -> Result<Option<u64>, AllocError> {
     Ok(None)
 }
 
+// A protection is compared with LOW, a collection finds the least need, and each limit of steps stops it where it should.
 #[test]
 fn tickets_are_protected_and_cells_collected(rt: HostRuntime) -> Result<(), Fail> {
     let alloc = rt.alloc();

@@ -26,9 +26,9 @@ use std::thread::{Threads, join};
 // the linked entries to it up to that ticket, makes it durable, and gives it up.
 type Done = (u64, RaisesFront);
 
-// A caller without entries links one with the operation `op`, and makes `count` turns: in each it tries one replica and applies the entries up to its
-// own. Returns the ticket and what the turns did. `None` where the entry was not linked, since others linked first at each try or no ticket is left;
-// `Halt` where the caller stopped.
+// A caller without entries links one with the operation `op`, and makes `count` turns, in each of which it tries to take one replica and bring it up
+// to that entry. Returns the ticket and what the turns did. `None` where the entry was not linked, since others linked first at each try or no ticket
+// is left; `Halt` where the caller stopped.
 fn link_and_attempt<O: Object>(
     shared: &Shared<O>,
     seat: &mut CallerSeat,
@@ -48,8 +48,8 @@ fn link_and_attempt<O: Object>(
     }
 }
 
-// Links an entry with the operation `op` and makes `count` turns on a seat that was moved to another thread. Returns the seat with what was done:
-// `None` where the entry was not linked or the caller stopped.
+// Links an entry with the operation `op`, and tries `count` times to take a replica and bring it up to that entry, on a seat that was moved to
+// another thread. Returns the seat with what was done: `None` where the entry was not linked or the caller stopped.
 fn on_thread<O: Object>(
     shared: &Shared<O>,
     mut seat: CallerSeat,
@@ -72,8 +72,8 @@ struct Ended {
     left: Remains,
 }
 
-// Two callers on threads of their own link an entry each and make `count` turns each. The first takes the first of `ops` and of `scratches`, the
-// second the other. Returns for each its seat, and what it did.
+// Two callers on threads of their own link an entry each, and each tries `count` times to take a replica and bring it up to its entry. The first
+// takes the first of `ops` and of `scratches`, the second the other. Returns for each its seat, and what it did.
 fn joined<R: Runtime + Threads + Sync>(
     rt: &R,
     shared: &Shared<DocStore>,
@@ -97,8 +97,8 @@ fn joined<R: Runtime + Threads + Sync>(
     )
 }
 
-// Makes a table on which two callers on threads link an entry each and make `count` turns, closes it, and returns what they did and what it left.
-// `None` where a caller linked nothing or stopped, or the table was not closed.
+// Makes a table on which two callers on threads link an entry each and try `count` times each to bring a replica up, closes it, and returns what they
+// did and what it left. `None` where a caller linked nothing or stopped, or the table was not closed.
 fn two_threads<R: Runtime + Threads + Sync>(
     rt: &R,
     alloc: Global,
@@ -218,8 +218,8 @@ fn places_of(
     }
 }
 
-// How many entries two callers applied to replicas in all; `None` where one of them did not make `count` turns, or a replica was not at the right
-// place after a turn. A turn whose replica another held counts among the turns too.
+// How many entries two callers applied to replicas in all; `None` where one of them did not make `count` tries of a replica, or a replica was not at
+// the right place after one. A try whose replica another held counts too.
 fn replayed(first: &RaisesFront, second: &RaisesFront, count: u64) -> Option<u64> {
     let all = first.taken.saturating_add(first.refused) == count
         && second.taken.saturating_add(second.refused) == count;
@@ -230,9 +230,9 @@ fn replayed(first: &RaisesFront, second: &RaisesFront, count: u64) -> Option<u64
     }
 }
 
-// Runs two threads on a table of their own: each links an entry, and in each of `count` turns tries to take one replica and bring it up to that
-// entry. Returns how many entries were applied to replicas. `None` where a caller stopped or linked nothing, a replica was at a wrong place after a
-// turn, or the places of the replicas that are left do not add up to that number.
+// Runs two threads on a table of their own: each links an entry, and tries `count` times to take a replica and bring it up to that entry. Returns how
+// many entries were applied to replicas. `None` where a caller stopped or linked nothing, a replica was at a wrong place after a try, or the places
+// of the replicas that are left do not add up to that number.
 fn turned<R: Runtime + Threads + Sync>(
     rt: &R,
     alloc: Global,
@@ -248,8 +248,8 @@ fn turned<R: Runtime + Threads + Sync>(
     Ok(if places == entries { entries } else { None })
 }
 
-// How many entries were applied to replicas on `tables` tables together, on each of which two threads try a hundred replicas each; `None` where a
-// table was left with something wrong.
+// How many entries were applied to replicas on `tables` tables together, on each of which two threads make a hundred tries each to take a replica and
+// bring it up; `None` where a table was left with something wrong.
 fn replayed_on<R: Runtime + Threads + Sync>(
     rt: &R,
     alloc: Global,
@@ -297,14 +297,15 @@ fn set_is_taken(alloc: Global) -> Result<bool, AllocError> {
     Ok(is_right && taken == 0 && other_taken == 1 && places == Some(3))
 }
 
+// A caller uses the write set that another offered for its entry, and does not do the step of that entry itself.
 #[test]
 fn an_offered_set_is_taken(rt: HostRuntime) -> Result<(), Fail> {
     holds(&rt, set_is_taken(rt.alloc())?);
     Ok(())
 }
 
-// On each of a hundred tables, two threads make a hundred turns each. Replica 0 is the current one, and refused to both. What is
-// replayed on the other three is at most both entries each. The caller of the second entry brings each replica that it takes up to
+// On each of a hundred tables, two threads make a hundred tries each to take a replica and bring it up. Replica 0 is the current one, and refused to
+// both. What is replayed on the other three is at most both entries each. The caller of the second entry brings each replica that it takes up to
 // both, and the other thread holds at most one at a time.
 #[test]
 fn two_threads_leave_images(rt: HostRuntime) -> Result<(), Fail> {

@@ -113,6 +113,7 @@ fn first_wrong_limit(alloc: Global) -> Result<Option<usize>, AllocError> {
     Ok(None)
 }
 
+// At each limit of steps, a refused shared try leaves the lock word that its row says.
 #[test]
 fn lock_words_are_exact(rt: HostRuntime) -> Result<(), Fail> {
     holds(&rt, first_wrong_limit(rt.alloc())?.is_none());

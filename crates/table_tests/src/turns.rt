@@ -149,7 +149,7 @@ pub(crate) fn turn<O: Object>(
     }
 }
 
-/// Calls `turn` for `count` replicas, one after another from the first of the caller's own two on, and in a circle. Returns the sums.
+/// Calls `turn` `count` times, on one replica after another from the first of the caller's own two on, and in a circle. Returns the sums.
 pub(crate) fn make_attempts<O: Object>(
     shared: &Shared<O>,
     seat: &mut CallerSeat,
