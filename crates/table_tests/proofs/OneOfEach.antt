@@ -6,27 +6,30 @@ use Rattle.cx_core.specs.Merge.{own_of}
 use Rattle.cx_core.proofs.MergeLemmas.{own_mine, own_other}
 use Rattle.mutation_queue.specs.Tests.{AreInOrder, OneOfEach}
 
--- each entry is one of these two callers'
+-- each entry of a history is of caller `c` or of caller `d`
 abbrev Only : ℕ → ℕ → List Entry → Type 0
 Only c d history = (i : ℕ) (entry : Entry) → slice_get history i ≡ Some entry → (entry.caller ≡ c) ⊎ (entry.caller ≡ d)
 
+-- where each entry of a history is of `c` or `d`, so is each behind the first one
 later : (c d : ℕ) (entry : Entry) (rest : List Entry) → Only c d (entry ∷ rest) → Only c d rest
 later c d entry rest only i x at = only (suc i) x at
 
+-- the first item of a list, or `x` where it is empty
 item_of : {A : Type 0} → A → List A → A
 item_of x [] = x
 item_of x (y ∷ ys) = y
 
+-- the items of a list behind the first one
 items_after : {A : Type 0} → List A → List A
 items_after [] = []
 items_after (y ∷ ys) = ys
 
--- a caller without entries does not have the first one
+-- a caller that has no entry in a history is not the caller of its first entry
 not_first : (c ticket : ℕ) (entry : Entry) (rest : List Entry) → own_of c ticket (entry ∷ rest) ≡ [] → entry.caller ≢ c
 not_first c ticket entry rest none e =
     let both = ap length (sym (own_mine c ticket entry rest e) ∙ none) in omega arith
 
--- a caller's only entry, where it is the first
+-- where the caller `c` of the first entry has one entry `a` in the history, that is the first, and none behind it is of `c`
 is_first : (c ticket : ℕ) (entry : Entry) (rest : List Entry) (a : Linked) → entry.caller ≡ c → own_of c ticket (entry ∷ rest) ≡ a ∷ [] →
     (record { ticket = ticket; entry = entry } ≡ a) × (own_of c (ticket + 1) rest ≡ [])
 unfolding item_of items_after
@@ -34,7 +37,7 @@ is_first c ticket entry rest a e own =
     let both = sym (own_mine c ticket entry rest e) ∙ own in
     (ap (item_of a) both, ap items_after both)
 
--- neither has an entry
+-- a history of two callers in which neither has an entry is empty
 neither : (c d ticket : ℕ) (history : List Entry) → Only c d history → own_of c ticket history ≡ [] → own_of d ticket history ≡ [] → history ≡ []
 neither c d ticket [] only none_c none_d = refl
 neither c d ticket (entry ∷ rest) only none_c none_d =
@@ -43,7 +46,7 @@ neither c d ticket (entry ∷ rest) only none_c none_d =
       | inr e ↦ absurd (not_first d ticket entry rest none_d e)
     ]
 
--- one has one entry, and the other none
+-- a history of two callers, in which `d` has the one entry `b` and `c` has none, is `b` alone
 alone : (c d ticket : ℕ) (history : List Entry) (b : Linked) → c ≢ d → Only c d history → own_of c ticket history ≡ [] → own_of d ticket history ≡ b ∷ [] →
     (history ≡ b.entry ∷ []) × (b.ticket ≡ ticket)
 alone c d ticket [] b apart only none own = (let none_is = ap length own in absurd (omega arith))
@@ -56,11 +59,12 @@ alone c d ticket (entry ∷ rest) b apart only none own =
           (ap (λ (x : Linked). x.entry ∷ rest) first.0 ∙ ap (λ xs. b.entry ∷ xs) ended, ap (λ (x : Linked). x.ticket) (sym first.0)))
     ]
 
--- the first entry is of the one that has one entry, as the other has
+-- where the first entry of a history is of `c`, which has the one entry `a`, and `d` has the one entry `b`, the history is `a` and then `b`
 then_other : (c d ticket : ℕ) (entry : Entry) (rest : List Entry) (a b : Linked) → c ≢ d → Only c d rest → entry.caller ≡ c → own_of c ticket (entry ∷ rest) ≡ a ∷ [] → own_of d ticket (entry ∷ rest) ≡ b ∷ [] →
     AreInOrder ticket (entry ∷ rest) a b
 then_other c d ticket entry rest a b apart only e own_c own_d =
     let first = is_first c ticket entry rest a e own_c in
+    -- the rest of the history is the entry `b` alone
     let last = alone c d (ticket + 1) rest b apart only first.1 (sym (own_other d ticket entry rest (λ k. apart (sym e ∙ k))) ∙ own_d) in
     record {
       entries = ap (λ (x : Linked). x.entry ∷ rest) first.0 ∙ ap (λ xs. a.entry ∷ xs) last.0;
@@ -68,9 +72,11 @@ then_other c d ticket entry rest a b apart only e own_c own_d =
       next = last.1;
     }
 
+-- a history of callers `c` and `d` is one of callers `d` and `c`
 swap : (c d : ℕ) (history : List Entry) → Only c d history → Only d c history
 swap c d history only i x at = elim (only i x at) [ inl e ↦ inr e | inr e ↦ inl e ]
 
+-- a history of two callers, in which each has one entry, has these two entries at the first two tickets, in one of the two orders
 first_of : (c d ticket : ℕ) (history : List Entry) (a b : Linked) → c ≢ d → Only c d history → own_of c ticket history ≡ a ∷ [] → own_of d ticket history ≡ b ∷ [] → OneOfEach ticket history a b
 first_of c d ticket [] a b apart only own_c own_d = (let none_is = ap length own_c in absurd (omega arith))
 first_of c d ticket (entry ∷ rest) a b apart only own_c own_d =
@@ -79,12 +85,13 @@ first_of c d ticket (entry ∷ rest) a b apart only own_c own_d =
       | inr e ↦ inr (then_other d c ticket entry rest b a (λ k. apart (sym k)) (later d c entry rest (swap c d (entry ∷ rest) only)) e own_d own_c)
     ]
 
+-- a number below 2 is 0 or 1
 below_two : (n : ℕ) → n < 2 → (n ≡ 0) ⊎ (n ≡ 1)
 below_two zero below = inl refl
 below_two (suc zero) below = inr refl
 below_two (suc (suc n)) below = absurd (omega arith)
 
--- two callers of which each has one entry, and no other callers' entries
+-- a history of callers 0 and 1, in which each has one entry, has these two entries at the first two tickets, in one of the two orders
 pub one_of_each : (place : ℕ) (history : List Entry) (a b : Linked) → ((i : ℕ) (entry : Entry) → slice_get history i ≡ Some entry → entry.caller < 2) → own_of 0 place history ≡ a ∷ [] → own_of 1 place history ≡ b ∷ [] →
     OneOfEach place history a b
 one_of_each place history a b of own_a own_b =

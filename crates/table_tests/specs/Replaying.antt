@@ -18,7 +18,7 @@ pub record HasNoRight (l : Local) : Type 0 where
   pub downgraded : l.downgraded ≡ None
   pub won : l.won ≡ None
 
--- a caller without entries, rights or a protection, whose cell 0 is idle
+-- a seat is of a caller of the table `r` without entries, rights or a protection, whose cell 0 may be written
 pub record IsNew {O : Type 0} (r : Running O) (seat : Seated) : Type 0 where
   pub of : IsSeatOf r seat
   pub idle : IsIdle seat.known.local 0
@@ -27,25 +27,25 @@ pub record IsNew {O : Type 0} (r : Running O) (seat : Seated) : Type 0 where
   pub free : HasNoRight seat.known.local
   pub protection : seat.known.local.protection ≡ Unprotected
 
--- a caller without rights or a protection
+-- a seat is of a caller of the table `r` without rights or a protection
 pub record IsFree {O : Type 0} (r : Running O) (seat : Seated) : Type 0 where
   pub of : IsSeatOf r seat
   pub free : HasNoRight seat.known.local
   pub protection : seat.known.local.protection ≡ Unprotected
 
--- where an entry was linked, the caller knows that it is
+-- where a try to link gave a ticket, the caller knows that the entry with it is linked: it is before the tail that the caller knows
 abbrev pub KnowsLinked : Seated → LinkTried → Type 0
 KnowsLinked seat (Linked ticket) = ticket < seat.known.local.front
 KnowsLinked seat Again = Unit {0}
 KnowsLinked seat Worn = Unit {0}
 
--- from one seat to another the front, what is downgraded, and the protection stay
+-- from the seat `before` to the seat `after` the tail that the caller knows, the replica that it has downgraded, and its protection stay
 pub record Keeps (before after : Seated) : Type 0 where
   pub front : after.known.local.front ≡ before.known.local.front
   pub downgraded : after.known.local.downgraded ≡ before.known.local.downgraded
   pub protection : after.known.local.protection ≡ before.known.local.protection
 
--- where a publication did not win, its right was given back
+-- a publication gave either a win, or the right on the downgraded replica back, which the caller still has
 abbrev pub GivenBack : ℕ → Seated → Result WonRight Right → Type 0
 GivenBack callers seat (Ok won) = Unit {0}
 GivenBack callers seat (Err held) = IsDowngradedOf callers seat held

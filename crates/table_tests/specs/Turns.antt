@@ -9,12 +9,12 @@ use Rattle.replica.specs.Laws.{IsTaken}
 use Rattle.replica.specs.Replays.{IsHeldImage}
 use Rattle.strong_trylock.specs.Held.{all_rights, no_rights}
 
--- it was just taken, and is the caller's only right
+-- the caller of `seat` just took the replica of `held` exclusively, and has no other right
 pub record TakesIt {O : Type 0} (lines : ℕ) (r : Running O) (lawful : List ℕ → Type 0) (step : List ℕ → List ℕ → List ℕ × List ℕ) (seat : Seated) (held : Right) : Type 0 where
   pub taken : IsTaken lines r lawful step seat held
   pub rights : all_rights seat ≡ record no_rights { exclusive = Some held.replica }
 
--- it is the image after its place, and no word of it is dirty
+-- the caller of `seat` holds the replica of `held` exclusively, which is the image after its place, and no word of it is dirty
 pub record IsFlushedImage {O : Type 0} (lines : ℕ) (r : Running O) (lawful : List ℕ → Type 0) (step : List ℕ → List ℕ → List ℕ × List ℕ) (seat : Seated) (held : Right) : Type 0 where
   pub is_held : IsHeld lines r lawful step seat held
   pub image : IsHeldImage lines lawful r.base step seat.known

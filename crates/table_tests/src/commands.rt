@@ -15,13 +15,14 @@ const LETTERS: [u8; 150] = [b'x'; 150];
 // and one the count (6).
 const KINDS: [u64; 10] = [1, 1, 1, 1, 2, 3, 3, 4, 5, 6];
 
-/// Numbers that look random.
+/// Numbers that look random, and are the same for the same first `state`.
 #[derive(Drop)]
 pub(crate) struct Numbers {
     pub(crate) state: u64,
 }
 
 impl Numbers {
+    /// The next number, which is less than `below`.
     pub(crate) fn next(&mut self, below: u64) -> u64
         requires { 0 < below }
         ensures { result < below }
@@ -39,7 +40,7 @@ fn digit(n: u64) -> u8 {
     DIGITS[(n % 10) as usize]
 }
 
-// Puts a word at a place, if there is one.
+// Puts a word at the index `at`, if there is one.
 fn put_word(words: &mut [u64], at: usize, word: u64) {
     if let Some(place) = words.get_mut(at) {
         *place = word;
@@ -55,7 +56,7 @@ fn lay(words: &mut [u64], from: usize, bytes: &[u8]) {
     }
 }
 
-/// The words that put `long` letters, up to 150, under a key.
+/// The words of an operation that puts `long` letters, at most 150, under a key.
 pub(crate) fn put(key: &[u8], long: usize) -> [u64; 144] {
     let mut words = [0; 144];
     put_word(&mut words, 0, 1);
@@ -66,8 +67,9 @@ pub(crate) fn put(key: &[u8], long: usize) -> [u64; 144] {
     words
 }
 
-/// The words of a command on one of 50 keys: a number, or up to 150 letters, is what is put.
+// The words of a command on one of 50 keys; what is put is a number of two digits, or 30 to 149 letters.
 fn command(numbers: &mut Numbers) -> [u64; 144] {
+    // what is drawn: the kind of the command, its key, a number, and a length
     let kind = KINDS[numbers.next(10) as usize];
     let n = numbers.next(50);
     let key = [b'k', digit(n / 10), digit(n)];
@@ -76,6 +78,7 @@ fn command(numbers: &mut Numbers) -> [u64; 144] {
     if kind == 1 && long >= 30 {
         return put(&key, long);
     }
+    // word 0 is the kind, word 1 the length of the key, word 2 that of the document, word 3 what is added
     let mut words = [0; 144];
     put_word(&mut words, 0, kind);
     if kind < 6 {
@@ -92,7 +95,7 @@ fn command(numbers: &mut Numbers) -> [u64; 144] {
     words
 }
 
-/// The entry of a caller with a number, of these words.
+/// The entry with this number of a caller, with the operation `op`.
 pub(crate) fn entry_of(caller: u32, number: u64, op: &[u64; 144]) -> Entry
     ensures caller { result.caller ≡ caller }
     ensures op { Words 144 result.op }
@@ -106,7 +109,7 @@ pub(crate) fn entry_of(caller: u32, number: u64, op: &[u64; 144]) -> Entry
     }
 }
 
-/// The next entry of one of 8 callers in turn, of a command.
+/// The entry `k`, from 0 on, of 8 callers in turn, with a command that looks random. It is of caller k mod 8.
 pub(crate) fn next_entry(numbers: &mut Numbers, k: u64) -> Entry
     ensures caller { result.caller < 8 }
     ensures op { Words 144 result.op }

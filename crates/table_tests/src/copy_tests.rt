@@ -29,7 +29,8 @@ pub(crate) const SOURCE: u32 = 1;
 // The replica that is copied over.
 const TARGET: u32 = 2;
 
-/// Takes a replica shared beside one held exclusively.
+/// Tries to take replica `r` shared, while the caller holds another one exclusively (`held`). Where it is taken, the caller holds both; `None` where
+/// it is held exclusively.
 pub(crate) fn share_beside<O: Object>(
     shared: &Shared<O>,
     seat: &mut CallerSeat,
@@ -46,10 +47,10 @@ pub(crate) fn share_beside<O: Object>(
     Ok(right.ok())
 }
 
-/// The result of a copy: the steps before it, and the place that it returned.
+/// How many steps the caller had made before a copy, and the place that the copy returned.
 pub(crate) type Copied = (u64, u64);
 
-// Copies replica `SOURCE` over one that was just taken.
+// Copies replica `SOURCE` over replica 2, which was just taken (`held`); `None` where `SOURCE` is held exclusively.
 fn copy_beside<O: Object>(
     shared: &Shared<O>,
     seat: &mut CallerSeat,
@@ -68,7 +69,8 @@ fn copy_beside<O: Object>(
     Ok(Some((before, place)))
 }
 
-// A caller without entries links one, brings a replica up to it and gives it up, and copies it over another.
+// A caller without entries links one with the operation `op`, brings replica `SOURCE` up to it and gives that up, and copies it over `TARGET`. `None`
+// where the entry was not linked, or a replica was refused to the copy.
 fn renew_and_copy<O: Object>(
     shared: &Shared<O>,
     seat: &mut CallerSeat,
@@ -89,7 +91,8 @@ fn renew_and_copy<O: Object>(
     }
 }
 
-/// The copy of a caller with a limit, its steps, and what the table left.
+/// What a caller with a limit did: its copy (`copied`), which is `None` where it stopped before the end of it, all its steps, and what the closed
+/// table left.
 #[derive(Drop)]
 pub(crate) struct Outcome {
     pub(crate) copied: Option<Copied>,
@@ -97,7 +100,8 @@ pub(crate) struct Outcome {
     pub(crate) left: Remains,
 }
 
-/// The outcome of a caller that brings a replica up and copies it, with a limit of steps, on a table that is then closed.
+/// A caller with a limit of steps links an entry with the operation `op`, brings a replica up to it and copies that; then the table is closed. `None`
+/// where it could not be closed.
 pub(crate) fn at_limit(
     alloc: Global,
     op: &[u64; 144],
@@ -122,7 +126,7 @@ pub(crate) fn at_limit(
 /// The steps before the copy, those of the whole run, and the place that the copy returned.
 pub(crate) type Whole = (u64, u64, u64);
 
-/// The result of a run without a limit.
+/// What a caller without a limit of steps does with an entry of the operation `op`; `None` where it made no copy.
 pub(crate) fn whole_run(alloc: Global, op: &[u64; 144]) -> Result<Option<Whole>, AllocError> {
     match at_limit(alloc, op, NO_LIMIT)? {
         Some(outcome) => Ok(whole_of(outcome.copied, outcome.steps)),
@@ -130,7 +134,7 @@ pub(crate) fn whole_run(alloc: Global, op: &[u64; 144]) -> Result<Option<Whole>,
     }
 }
 
-// The result of a run that was not halted, which made `steps` steps.
+// The result of a run of `steps` steps in all; `None` where no copy was made.
 fn whole_of(copied: Option<Copied>, steps: u64) -> Option<Whole> {
     let (before, place) = copied?;
     Some((before, steps, place))
@@ -139,12 +143,14 @@ fn whole_of(copied: Option<Copied>, steps: u64) -> Option<Whole> {
 // The loads of a line: 8 words of each of two replicas.
 const LINE_LOADS: u64 = 16;
 
-// Whether a copy of `words` over the words `before` leaves the words `found` after `steps` steps.
+// Whether the first `steps` steps of a copy of `words` over the words `before` leave the words `found`. A step is one load or one store; after the
+// last store the copy makes one that releases the source.
 fn is_copied_to(words: &[u64], before: &[u64], found: &[u64], steps: u64) -> bool {
     let lines = words.len() / 8;
     let mut line = 0usize;
     let mut left = steps;
     for ((words, before), found) in words.chunks(8).zip(before.chunks(8)).zip(found.chunks(8)) {
+        // `left` are the steps that remain for this line and those behind it
         left = left.saturating_sub(loads_before(line, lines));
         match line_left(words, before, found, left) {
             Some(steps) => left = steps,
@@ -155,8 +161,8 @@ fn is_copied_to(words: &[u64], before: &[u64], found: &[u64], steps: u64) -> boo
     true
 }
 
-// The loads between the stores of the line before a line and its own. The first line, and behind it each eight lines or as many as are
-// left, are loaded before a word of them is stored.
+// How many loads a copy makes just before its stores to the line `line`, of `lines` lines. It loads line 0 alone, and behind it each group of 8
+// lines, or as many as are left, before it stores a word of the group.
 fn loads_before(line: usize, lines: usize) -> u64 {
     if line == 0 {
         return LINE_LOADS;
@@ -167,7 +173,8 @@ fn loads_before(line: usize, lines: usize) -> u64 {
     LINE_LOADS.saturating_mul(lines.saturating_sub(line).min(8) as u64)
 }
 
-// The steps left after a store of each word of a line that differs, as far as the steps go, where the words found are those.
+// How many of `steps` steps are left after a copy stored each word of a line that differs from the word `before`, one in each step, as far as the
+// steps go. `None` where `found` is not the line that these stores leave.
 fn line_left(words: &[u64], before: &[u64], found: &[u64], steps: u64) -> Option<u64> {
     let mut left = steps;
     for ((word, before), found) in words.iter().zip(before.iter()).zip(found.iter()) {
@@ -183,15 +190,16 @@ fn line_left(words: &[u64], before: &[u64], found: &[u64], steps: u64) -> Option
     Some(left)
 }
 
-// Whether the replica that is copied over has the words that were stored in `steps` steps, of which none is durable yet.
+// Whether the replica that is copied over has the words that a copy of `source` stores over `opening` in `steps` steps. None of them is durable yet,
+// and exactly the words that differ from the durable ones are marked dirty.
 fn is_begun(replica: &Replica, source: &[u64], opening: &[u64], steps: u64) -> bool {
     replica.durable == opening
         && is_copied_to(source, opening, replica.volatile, steps)
         && is_marked(replica)
 }
 
-// Whether a caller that made `steps` steps of a copy left the replicas so: that which is copied durable, the other with the words that
-// were stored so far, and two untouched.
+// Whether a caller that made `steps` steps of a copy left the replicas so: `SOURCE` durable with the words `source`, `TARGET` with the words that
+// were stored so far, and replicas 0 and 3 untouched.
 fn is_copied(left: &Remains, source: &[u64], opening: &[u64], steps: u64) -> bool {
     let Some(target) = replica_of(left, TARGET as usize, opening.len()) else {
         return false;
@@ -202,8 +210,8 @@ fn is_copied(left: &Remains, source: &[u64], opening: &[u64], steps: u64) -> boo
         && is_clean(left, 3, opening)
 }
 
-// The words that differ at first, where the run without a limit is right: the copy loads each word of both replicas, stores those that
-// differ, and gives the shared right back. It gives the place of the replica copied.
+// How many words a copy without a limit stores, where it makes the right steps and gives place 1; else `None`. It loads each of the 1680 words of
+// both replicas, stores those that differ, and gives the shared right back.
 fn whole_copy(alloc: Global) -> Result<Option<u64>, AllocError> {
     let entry = first_entry();
     let Some((before, steps, place)) = whole_run(alloc, &entry.op)? else {
@@ -222,6 +230,7 @@ fn whole_copy(alloc: Global) -> Result<Option<u64>, AllocError> {
     })
 }
 
+// A copy without a limit gives the place of its source, and stores 12 words or more.
 #[test]
 fn a_whole_copy_gives_the_place(rt: HostRuntime) -> Result<(), Fail> {
     let differ = whole_copy(rt.alloc())?;
@@ -229,7 +238,8 @@ fn a_whole_copy_gives_the_place(rt: HostRuntime) -> Result<(), Fail> {
     Ok(())
 }
 
-// The operation of the entry that is replayed before a copy, the words that are copied, and the words of the opening image under them.
+// The operation of the entry that is replayed before a copy (`op`), the words that are copied (`source`), and the words of the opening image under
+// them (`opening`).
 #[derive(Drop)]
 struct Words<'a> {
     op: &'a [u64; 144],
@@ -237,7 +247,8 @@ struct Words<'a> {
     opening: &'a [u64],
 }
 
-// Whether a limit of `steps` steps behind those before the copy, which is whole or not, leaves the copy begun.
+// Whether a caller that may make `steps` steps of its copy, after the `before` steps ahead of it, makes exactly these, and leaves the replicas as so
+// many steps of a copy do. The copy is to be complete exactly where `is_whole` says so.
 fn is_right_at(
     alloc: Global,
     words: &Words,
@@ -256,8 +267,8 @@ fn is_right_at(
     }
 }
 
-// How many limits of steps within a copy were tried, each fourth one from `from` on; `None` where one of them leaves something else than the
-// copy begun.
+// How many limits of steps within a copy were tried: `from`, and each fourth one after it. `None` where one of them leaves anything else than as many
+// steps of a copy do.
 fn right_limits(alloc: Global, words: &Words, from: u64) -> Result<Option<u64>, AllocError> {
     let Some((before, all, _)) = whole_run(alloc, words.op)? else {
         return Ok(None);
@@ -277,7 +288,7 @@ fn right_limits(alloc: Global, words: &Words, from: u64) -> Result<Option<u64>, 
     Ok(Some(tried))
 }
 
-// Whether each fourth limit of steps within a copy, from `from` on, leaves the copy begun; there are 840 such limits or more.
+// Whether each fourth limit of steps within a copy, from `from` on, leaves what as many steps of a copy do; there are 840 such limits or more.
 fn are_right(alloc: Global, from: u64) -> Result<bool, AllocError> {
     let entry = first_entry();
     let (source, _) = stepped(alloc, &entry, None)?;
@@ -298,18 +309,21 @@ fn limits_leave_a_copy_begun(rt: HostRuntime) -> Result<(), Fail> {
     Ok(())
 }
 
+// The limits of 1, 5, 9 steps of the copy and so on.
 #[test]
 fn limits_past_one_step_leave_a_copy_begun(rt: HostRuntime) -> Result<(), Fail> {
     holds(&rt, are_right(rt.alloc(), 1)?);
     Ok(())
 }
 
+// The limits of 2, 6, 10 steps of the copy and so on.
 #[test]
 fn limits_past_two_steps_leave_a_copy_begun(rt: HostRuntime) -> Result<(), Fail> {
     holds(&rt, are_right(rt.alloc(), 2)?);
     Ok(())
 }
 
+// The limits of 3, 7, 11 steps of the copy and so on.
 #[test]
 fn limits_past_three_steps_leave_a_copy_begun(rt: HostRuntime) -> Result<(), Fail> {
     holds(&rt, are_right(rt.alloc(), 3)?);

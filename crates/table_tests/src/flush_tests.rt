@@ -25,7 +25,7 @@ const REGION: u64 = 1680;
 // The value that these tests store over words.
 const WORD: u64 = 1 << 40;
 
-// Stores `WORD` at an address of a replica.
+// Stores `WORD` at the address `at` of the replica `held`.
 fn store_at(
     shared: &Shared<Tally>,
     seat: &mut CallerSeat,
@@ -39,7 +39,7 @@ fn store_at(
     shared.store_held(seat, held, at, WORD)
 }
 
-// Stores `WORD` over each of the last `count` words of a replica, and persists them.
+// Stores `WORD` over each of the last `count` words of the replica `held`, and persists them.
 fn store_and_flush(
     shared: &Shared<Tally>,
     seat: &mut CallerSeat,
@@ -70,8 +70,8 @@ fn take_and_flush(shared: &Shared<Tally>, seat: &mut CallerSeat, count: u64) -> 
     }
 }
 
-// A caller without entries takes replica 1 exclusively and replica 0 shared, and copies replica 0 over replica 1. It returns
-// whether the place was 0.
+// A caller without entries takes replica 1 exclusively and replica 0 shared, and copies replica 0 over replica 1. It returns whether the copy gave
+// place 0; `false` also where a replica was refused.
 fn copy_at_opening(shared: &Shared<Tally>, seat: &mut CallerSeat) -> Result<bool, Halt>
     requires callers { shared.now.callers ≡ 2 }
     requires new { IsNew shared.now seat.old }
@@ -111,7 +111,8 @@ fn steps_of(flushed: Option<u64>) -> u64 {
     }
 }
 
-// What a table left whose caller stored and flushed `flushed` words, or copied a replica where that is `None`, in as many steps as that takes.
+// What a table left whose caller stored and flushed `flushed` words, or copied a replica where that is `None`. `None` where this took another number
+// of steps than it should, or was not done.
 fn left_by(alloc: Global, flushed: Option<u64>) -> Result<Option<Remains>, AllocError> {
     let (shared, mut first, second) = made(alloc, Tally, &NO_LIMITS)?;
     let is_done = flush_or_copy(&shared, &mut first, flushed) == Ok(true)
@@ -120,7 +121,7 @@ fn left_by(alloc: Global, flushed: Option<u64>) -> Result<Option<Remains>, Alloc
     Ok(if is_done { left } else { None })
 }
 
-// The words that a table of this object opens with, with `WORD` in place of each of the last `count`.
+// The words that a table of Tally opens with, with `WORD` in place of each of the last `count`.
 fn words_with(alloc: Global, count: u64) -> Result<Vec<u64>, AllocError> {
     let base = Base::fresh(alloc, &Tally)?;
     let mut words = base.words.into_vec();
@@ -131,7 +132,7 @@ fn words_with(alloc: Global, count: u64) -> Result<Vec<u64>, AllocError> {
     Ok(words)
 }
 
-// Whether replica 1 was left with these words durable, and the three others with the words that they opened with, none of them dirty.
+// Whether replica 1 was left with `words`, and the three others with the words `opening` that they opened with, all durable and none of them dirty.
 fn is_left(left: &Remains, opening: &[u64], words: &[u64]) -> bool {
     is_clean(left, 0, opening)
         && is_clean(left, 1, words)
@@ -139,7 +140,8 @@ fn is_left(left: &Remains, opening: &[u64], words: &[u64]) -> bool {
         && is_clean(left, 3, opening)
 }
 
-// Whether replica 1 has each word that was flushed in memory and on the medium, and no other word of the table is changed.
+// Whether replica 1 has each word that was flushed in memory and on the medium, and no other word of the table is changed. `flushed` is how many
+// words a caller stored and flushed, or `None` for a copy.
 fn is_right(alloc: Global, flushed: Option<u64>) -> Result<bool, AllocError> {
     let opening = words_with(alloc, 0)?;
     let words = words_with(alloc, flushed.unwrap_or(0))?;
@@ -162,7 +164,7 @@ const ROWS: [Option<u64>; 8] = [
     None,
 ];
 
-// The number of the first row that leaves another table than it should.
+// The number of the first row that leaves another table than it should; `None` where all are right.
 fn first_wrong(alloc: Global, rows: &[Option<u64>]) -> Result<Option<usize>, AllocError> {
     for (i, row) in rows.iter().enumerate() {
         if !is_right(alloc, *row)? {
@@ -172,6 +174,7 @@ fn first_wrong(alloc: Global, rows: &[Option<u64>]) -> Result<Option<usize>, All
     Ok(None)
 }
 
+// Each word that a caller stores and flushes is durable, and a copy that finds no difference makes no word dirty.
 #[test]
 fn flushed_words_are_durable_and_copied_ones_clean(rt: HostRuntime) -> Result<(), Fail> {
     holds(&rt, first_wrong(rt.alloc(), &ROWS)?.is_none());

@@ -13,7 +13,7 @@ use std::alloc::{AllocError, Global};
 /// The lines of the document store of these tests.
 pub(crate) const LINES: u64 = 64;
 
-/// The first entry of caller 0.
+/// The first entry of caller 0: it puts 40 letters under a key.
 pub(crate) fn first_entry() -> Entry
     ensures caller { result.caller < 8 }
     ensures op { Words 144 result.op }
@@ -27,7 +27,8 @@ pub(crate) fn opening(alloc: Global) -> Result<Vec<u64>, AllocError> {
     Ok(base.words.into_vec())
 }
 
-/// The words of the opening image after the full step of an entry on a plain memory that allows `accesses` accesses, and whether it was done.
+/// The words of the opening image after `entry` was applied to it on a plain memory, and whether that was done to its end. `accesses` accesses are
+/// allowed, or any number where that is `None`.
 pub(crate) fn stepped(
     alloc: Global,
     entry: &Entry,
@@ -42,7 +43,7 @@ pub(crate) fn stepped(
     Ok((plain.into_words(), is_done))
 }
 
-/// What a table left of a replica: its words in memory and on the medium, and which of them are dirty.
+/// What a table left of a replica: its words in memory (`volatile`) and on the medium (`durable`), and for each whether it is dirty (`dirty`).
 #[derive(Drop)]
 pub(crate) struct Replica<'a> {
     pub(crate) volatile: &'a [u64],
@@ -50,7 +51,7 @@ pub(crate) struct Replica<'a> {
     pub(crate) dirty: &'a [bool],
 }
 
-/// What a table left of a replica of `region` words.
+/// What a table left of replica `r`, of `region` words; `None` where it left no such replica.
 pub(crate) fn replica_of(left: &Remains, r: usize, region: usize) -> Option<Replica<'_>> {
     let from = region.checked_mul(r)?;
     let to = region.checked_add(from)?;
@@ -61,7 +62,7 @@ pub(crate) fn replica_of(left: &Remains, r: usize, region: usize) -> Option<Repl
     })
 }
 
-/// Whether a table left a replica with these words in memory and on the medium, none of them dirty.
+/// Whether a table left replica `r` with `words` in memory and on the medium, none of them dirty.
 pub(crate) fn is_clean(left: &Remains, r: usize, words: &[u64]) -> bool {
     match replica_of(left, r, words.len()) {
         Some(replica) => {
@@ -86,7 +87,7 @@ pub(crate) fn is_marked(replica: &Replica) -> bool {
     true
 }
 
-/// How many words of two lists differ, place by place.
+/// How many words of two lists differ, index by index.
 pub(crate) fn differing(one: &[u64], other: &[u64]) -> u64 {
     let mut count = 0u64;
     for (a, b) in one.iter().zip(other.iter()) {

@@ -1,8 +1,9 @@
 //! The running table has the words of the state machine as atomic words, and each of its calls may stop at any step, where its caller's limit is
 //! reached. The contracts say what stands then; here it is seen.
 //!
-//! Try-locks, the operation log, replicas, publications, turns and write sets are called by one caller and by two, some on threads. At each limit of
-//! steps within an update and within a copy, what is left is compared with a plain model that makes the same steps. The crate has tests alone.
+//! Try-locks, the operation log, replicas, publications and write sets are called by one caller and by two, some on threads. Callers also take
+//! replicas one after another, bring each up and give it up. At each limit of steps within an update and within a copy, what is left is compared
+//! with a plain model that makes the same steps. The crate has tests alone.
 #![tactic(auto)]
 
 #[cfg(test)]

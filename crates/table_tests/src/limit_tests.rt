@@ -12,8 +12,8 @@ use cx_core::Entry;
 use std::alloc::{AllocError, Global};
 use std::test::Fail;
 
-// The steps before the full step of the first entry: its number and its words that are not 0, which the cell does not have yet, 2
-// to link, a try, the load of the place, and 2 to protect it; the entry is the caller's own, which it has.
+// The steps of a caller before the full step of its first entry, of the operation `op`: its number and its words that are not 0, which the cell does
+// not have yet, 2 to link, a try, the load of the place, and 2 to protect it. The entry need not be read, as it is the caller's own.
 fn steps_before(op: &[u64; 144]) -> u64 {
     let mut announced = 1u64;
     for word in op {
@@ -24,7 +24,8 @@ fn steps_before(op: &[u64; 144]) -> u64 {
     announced.saturating_add(2 + 2 + 2)
 }
 
-// The accesses of the full step of an entry: the fewest with which it is done.
+// How many loads and stores the full step of `entry` makes: the fewest accesses with which it is done. `None` where 1999 do not do. `entry` is of one
+// of 8 callers.
 fn accesses_of(alloc: Global, entry: &Entry) -> Result<Option<u64>, AllocError>
     requires { entry.now.caller < 8 }
 {
@@ -37,7 +38,8 @@ fn accesses_of(alloc: Global, entry: &Entry) -> Result<Option<u64>, AllocError>
     Ok(None)
 }
 
-// The model after a number of steps: the words in memory, and how many of those that are stored are persisted then.
+// What a replica has to be like after a number of steps: `words` in memory, over the words `opening` at first, and `persisted` of the words that were
+// changed durable.
 #[derive(Drop)]
 struct Model<'a> {
     opening: &'a [u64],
@@ -45,7 +47,7 @@ struct Model<'a> {
     persisted: u64,
 }
 
-// Whether each word that the medium has is the one in memory or the one before.
+// Whether each word of the medium (`durable`) is the one in memory (`new`) or the one before (`old`).
 fn are_old_or_new(durable: &[u64], old: &[u64], new: &[u64]) -> bool {
     for ((durable, old), new) in durable.iter().zip(old.iter()).zip(new.iter()) {
         if *durable != *old && *durable != *new {
@@ -55,7 +57,7 @@ fn are_old_or_new(durable: &[u64], old: &[u64], new: &[u64]) -> bool {
     true
 }
 
-// Whether a replica is the model. Which dirty words are persisted first is not promised, but how many.
+// Whether a replica is as `model` says. How many words are persisted is promised, and not which are first.
 fn is_modelled(replica: &Replica, model: &Model) -> bool {
     replica.volatile == model.words
         && are_old_or_new(replica.durable, model.opening, model.words)
@@ -63,7 +65,8 @@ fn is_modelled(replica: &Replica, model: &Model) -> bool {
         && is_marked(replica)
 }
 
-// How many dirty words a caller with a limit left in the replica, where it left it as the model and the three others untouched.
+// How many dirty words a caller with a limit left in replica `SOURCE`. `None` where it made other than `limit` steps, completed the copy, or left
+// `SOURCE` otherwise than the model or another replica changed.
 fn dirty_of(outcome: &Outcome, limit: u64, model: &Model) -> Option<u64> {
     let region = model.opening.len();
     let replica = replica_of(&outcome.left, SOURCE as usize, region)?;
@@ -80,8 +83,8 @@ fn dirty_of(outcome: &Outcome, limit: u64, model: &Model) -> Option<u64> {
     }
 }
 
-// Runs a caller with a limit of steps; returns how many dirty words it left in the replica, where it left it as the model and the three
-// others untouched.
+// Runs a caller with a limit of steps; returns how many dirty words it left in the replica that it brought up, or `None` where it left anything else
+// than the model there, or changed another replica.
 fn dirty_at(
     alloc: Global,
     op: &[u64; 144],
@@ -94,7 +97,7 @@ fn dirty_at(
     }
 }
 
-// How many words the full step of the entry changes in the opening image.
+// How many words the full step of `entry` changes in the opening image.
 fn stored_by(alloc: Global, entry: &Entry) -> Result<u64, AllocError>
     requires { entry.now.caller < 8 }
 {
@@ -102,7 +105,8 @@ fn stored_by(alloc: Global, entry: &Entry) -> Result<u64, AllocError>
     Ok(differing(&words, &opening(alloc)?))
 }
 
-// Of the pairs of an address and a value by which words become others, how many addresses and values are not 0.
+// A write set has an address and a value for each word that changes. Of these pairs from the words `before` to the words `after`, how many addresses
+// and values are not 0.
 fn pair_words(before: &[u64], after: &[u64]) -> u64 {
     let mut count = 0u64;
     for (at, (old, new)) in before.iter().zip(after.iter()).enumerate() {
@@ -121,6 +125,7 @@ fn offered_by(alloc: Global, entry: &Entry, accesses: u64) -> Result<u64, AllocE
     requires { entry.now.caller < 8 }
 {
     let mut before = opening(alloc)?;
+    // the offer, and the word of the set that counts its pairs
     let mut count = 2u64;
     for made in 0..=accesses {
         let (words, _) = stepped(alloc, entry, Some(made))?;
@@ -130,8 +135,8 @@ fn offered_by(alloc: Global, entry: &Entry, accesses: u64) -> Result<u64, AllocE
     Ok(count)
 }
 
-// How many words were persisted `steps` steps after the full step began, where it takes `offered` steps with the offer, and one more releases
-// the protection.
+// How many words were persisted `steps` steps after the full step began, as long as a word is dirty. The full step and the offer of its write set
+// take `offered` steps, one more releases the protection, and each further one persists a word. `is_done` is whether the full step was done.
 fn persisted_after(steps: u64, offered: u64, is_done: bool) -> u64 {
     if is_done {
         steps.saturating_sub(offered).saturating_sub(1)
@@ -140,7 +145,8 @@ fn persisted_after(steps: u64, offered: u64, is_done: bool) -> u64 {
     }
 }
 
-// How many dirty words a run with this limit leaves, where it leaves the words of the model.
+// How many dirty words a run with this limit leaves; `None` where it leaves other words than the model. The full step and the offer of its write set
+// take `offered` steps.
 fn dirty_after(
     alloc: Global,
     entry: &Entry,
@@ -161,7 +167,8 @@ fn dirty_after(
     dirty_at(alloc, &entry.op, limit, &model)
 }
 
-// The most dirty words that a run with a limit up to `last` leaves, where each run leaves the words of the model.
+// The most dirty words that a run with a limit of 0 to `last` steps leaves; `None` where a run leaves other words than the model. The full step and
+// the offer of its write set take `offered` steps.
 fn most_dirty(
     alloc: Global,
     entry: &Entry,
@@ -192,6 +199,7 @@ fn are_right(alloc: Global) -> Result<bool, AllocError> {
     ) else {
         return Ok(false);
     };
+    // `stored` words are stored and later persisted; `offered` are the steps of the full step and of the offer
     let stored = stored_by(alloc, &entry)?;
     let offered = accesses.saturating_add(offered_by(alloc, &entry, accesses)?);
     let all = steps_before(&entry.op)
@@ -201,6 +209,7 @@ fn are_right(alloc: Global) -> Result<bool, AllocError> {
     Ok(before == all && most_dirty(alloc, &entry, offered, before)? == Some(stored))
 }
 
+// Each limit of steps before the copy leaves the words, and as many dirty ones, as a plain model has.
 #[test]
 fn each_limit_leaves_the_words_of_the_model(rt: HostRuntime) -> Result<(), Fail> {
     holds(&rt, are_right(rt.alloc())?);

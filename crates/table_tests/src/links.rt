@@ -19,7 +19,8 @@ use std::alloc::{AllocError, Global};
 use std::test::Fail;
 use std::thread::join;
 
-// A table of two callers that opens at a place, and its seats.
+/// A table of two callers over Tally, which opens at a place, and the seats of caller 0 and caller 1, which have no entries yet. `limits` are their
+/// limits of steps.
 pub(crate) fn made(
     alloc: Global,
     place: u64,
@@ -39,7 +40,7 @@ pub(crate) fn made(
     }
 }
 
-// The first base of Tally, at another place.
+// The first base of Tally, but at the place `place`, which is in its word 0.
 fn base_at(alloc: Global, place: u64) -> Result<Base, AllocError>
     requires { place ≤ 2 ^ 40 }
     ensures lawful { IfOk result (LawfulBase 64 IsTally) }
@@ -54,7 +55,8 @@ fn base_at(alloc: Global, place: u64) -> Result<Base, AllocError>
     })
 }
 
-// A caller without entries announces an operation in its cell 0 and tries to link it.
+// A caller without entries announces the operation `op` in its cell 0, and tries up to `tries` times to link it. Returns its seat, and what the tries
+// did.
 fn update(
     shared: &Shared<Tally>,
     mut seat: CallerSeat,
@@ -75,7 +77,7 @@ fn update(
     (seat, tried)
 }
 
-// Closes a table of two callers.
+// Closes a table of two callers. The entries of its history are those that the two seats know as their own.
 fn closed(
     alloc: Global,
     shared: Shared<Tally>,
@@ -99,7 +101,8 @@ struct LinkedOp {
     ticket: u64,
 }
 
-// Closes a table of two callers, each of which linked one entry.
+// Closes a table of two callers, each of which linked one entry: `one` and `other`. Its history has these two entries and no others, in one of the
+// two orders.
 fn closed_after_both(
     alloc: Global,
     shared: Shared<Tally>,
@@ -116,7 +119,8 @@ fn closed_after_both(
     closed(alloc, shared, first, second)
 }
 
-// Whether two callers linked at the first two tickets, and their table, which is closed, was left as `is_left_open` says.
+// Whether two callers linked at the first two tickets, in whatever order, and their table, which is closed, was left as `is_left_open` says. `one`
+// and `other` are what their tries did; their operations have 144 words 5, or 144 words 7.
 fn are_both_linked(
     alloc: Global,
     shared: Shared<Tally>,
@@ -148,7 +152,7 @@ fn are_both_linked(
     Ok(are_linked && is_left_open(&remains))
 }
 
-// Whether these are the first two tickets.
+// Whether the tickets `a` and `b` are 0 and 1, in whatever order.
 fn are_first_two(a: u64, b: u64) -> bool {
     a != b && a < 2 && b < 2
 }
@@ -162,6 +166,7 @@ fn is_left_open(remains: &Remains) -> bool {
         && remains.volatile == remains.durable
 }
 
+// Two callers on threads link an entry each, in at most two tries: an operation of 144 words 5, and one of 144 words 7.
 #[test]
 fn two_threads_link(rt: HostRuntime) -> Result<(), Fail> {
     let alloc = rt.alloc();

@@ -8,8 +8,8 @@ use redo_set::{WriteSet, apply_set};
 use std::alloc::{AllocError, Global};
 use std::test::Fail;
 
-/// The pairs that a set takes; how many accesses its storing is allowed; the words that are not 0 after it, by address; and whether the set was
-/// stored whole.
+// The pairs of an address and a value that a set takes (`pairs`). How many accesses its storing is allowed (`left`), or `None` for any number. The
+// words that are not 0 after it, with their addresses (`words`), and whether the set was stored whole (`whole`).
 struct Row<'a> {
     pairs: &'a [(u64, u64)],
     left: Option<u64>,
@@ -68,7 +68,7 @@ static ROWS: [Row<'static>; 6] = [
     },
 ];
 
-// Puts pairs of addresses below 1,680 into a set up to the first that it does not take, and returns how many it took.
+// Puts pairs of addresses below 1,680 into a set, up to the first that it does not take, and returns how many it took.
 fn note_all(set: &mut WriteSet, pairs: &[(u64, u64)]) -> usize
     requires { AreWithin 1680 set.old }
     ensures { AreWithin 1680 set.new }
@@ -81,7 +81,8 @@ fn note_all(set: &mut WriteSet, pairs: &[(u64, u64)]) -> usize
     pairs.len()
 }
 
-// The words after a set was stored over 1,680 zeros with `left` accesses allowed, and whether it was stored whole.
+// The words after a set was stored over 1,680 zeros, and whether it was stored whole. `left` accesses are allowed, or any number where that is
+// `None`.
 fn stored(alloc: Global, set: &WriteSet, left: Option<u64>) -> Result<(Vec<u64>, bool), AllocError>
     requires { AreWithin 1680 set.now }
 {
@@ -100,7 +101,7 @@ fn word_at(pairs: &[(u64, u64)], at: u64) -> u64 {
     0
 }
 
-// Whether there are 1,680 words, which are the wanted ones at their addresses and 0 elsewhere.
+// Whether there are 1,680 words, which are the `wanted` ones at their addresses and 0 elsewhere.
 fn are_words(words: &[u64], wanted: &[(u64, u64)]) -> bool {
     for (at, word) in words.iter().enumerate() {
         if *word != word_at(wanted, at as u64) {
@@ -124,7 +125,7 @@ fn has_row_words(alloc: Global, set: &mut WriteSet, row: &Row) -> Result<bool, A
     )
 }
 
-// The number of the first row that goes wrong, with one set that takes the pairs of each row in turn.
+// The number of the first row that goes wrong, with one set that takes the pairs of each row in turn; `None` where all are right.
 fn first_wrong(alloc: Global, rows: &[Row]) -> Result<Option<usize>, AllocError> {
     let mut set = WriteSet::new(alloc)?;
     for (i, row) in rows.iter().enumerate() {
@@ -144,7 +145,7 @@ fn one_too_many(alloc: Global) -> Result<Vec<(u64, u64)>, AllocError> {
     Ok(pairs)
 }
 
-// Whether a set takes 256 pairs, and the next one changes nothing.
+// Whether a set takes the first 256 of 257 pairs, and refuses the last without a change.
 fn takes_256(alloc: Global, pairs: &[(u64, u64)]) -> Result<bool, AllocError> {
     let mut set = WriteSet::new(alloc)?;
     let taken = note_all(&mut set, pairs);
@@ -153,6 +154,7 @@ fn takes_256(alloc: Global, pairs: &[(u64, u64)]) -> Result<bool, AllocError> {
     Ok(full && whole && are_words(&words, pairs))
 }
 
+// Sets are stored pair by pair, as their rows say, and a set holds no more than 256 pairs.
 #[test]
 fn sets_are_stored_in_order(rt: HostRuntime) -> Result<(), Fail> {
     holds(&rt, first_wrong(rt.alloc(), &ROWS)?.is_none());

@@ -1,4 +1,5 @@
-//! Replicas that were replayed are published, and the table is closed before the wins are retired.
+//! Replicas that were replayed are published, and the table is closed before the wins are retired. A win is the token of a publication that put its
+//! code into CUR; to retire it subtracts 1 from the lock word of the replica that was published before.
 
 ghost use Rattle.std.specs.Prelude.{◌≡◌, ◌*◌, ◌<◌, ◌≤◌, IfOk, IfSome, IsTrue};
 ghost use Rattle.cx_core.specs.RootEvents.{CanPublish};
@@ -17,7 +18,8 @@ use mutation_queue::LinkTried;
 use std::alloc::{AllocError, Global};
 use std::test::Fail;
 
-// Whether a caller may publish the replica that it has downgraded.
+// Whether a caller may publish the replica that it has downgraded: the place of that is above the one of the code that the caller found last in CUR,
+// and the caller has no win of an earlier publication left to retire. `false` also where it has downgraded none.
 fn may_publish(callers: u32, seat: &CallerSeat) -> bool
     requires some { 1 ≤ callers }
     requires few { callers ≤ 8 }
@@ -32,10 +34,11 @@ fn may_publish(callers: u32, seat: &CallerSeat) -> bool
     }
 }
 
-// The code that a publication found in CUR, and its win or, where it lost, the right that it had.
+// The code that a publication found in CUR. Where it put its own code there, the win, which names both codes; where CUR was another than the caller
+// expected, the right that it had.
 type Published = (u64, Result<Won, Downgraded>);
 
-// Publishes a replica that was downgraded, where its caller may.
+// Publishes the replica that was downgraded (`held`); `None` where its caller may not. A right whose publication lost is given back.
 fn publish<O: Object>(
     shared: &Shared<O>,
     seat: &mut CallerSeat,
@@ -53,7 +56,8 @@ fn publish<O: Object>(
     Ok(Some(done))
 }
 
-// A caller without entries links one, replays all entries that are linked on a replica, and turns its right into a shared one.
+// A caller without entries links one with the operation `op`, applies all entries that it knows to be linked to replica `r`, and turns its right into
+// a shared one. `None` where the entry was not linked or the replica not brought up.
 fn link_and_renew<O: Object>(
     shared: &Shared<O>,
     seat: &mut CallerSeat,
@@ -76,12 +80,13 @@ fn link_and_renew<O: Object>(
     }
 }
 
-// Whether a win has this code, over the code `old`, and is this caller's.
+// Whether a win is of the code `code`, put over the code `old` by this caller.
 fn is_won(won: &Won, code: u64, old: u64, caller: u32) -> bool {
     won.code() == code && won.old() == old && won.caller() == caller
 }
 
-// Whether the first caller links an entry and publishes replica 1 at place 1, by code 5, over the opening code 0.
+// Whether the first caller links an entry and publishes replica 1 at place 1 over the opening code 0. The code of a root is the place times the 4
+// replicas, and the replica's number: 5 here. `None` where the replica was not published.
 fn first_publishes<O: Object>(shared: &Shared<O>, seat: &mut CallerSeat) -> Option<bool>
     requires new { IsNew shared.now seat.old }
     requires sized { IsSized (O.line_count shared.now.object) shared.now }
@@ -92,6 +97,7 @@ fn first_publishes<O: Object>(shared: &Shared<O>, seat: &mut CallerSeat) -> Opti
     let Ok(Some(held)) = link_and_renew(shared, seat, &adds(5), 1) else {
         return None;
     };
+    // CUR has the opening code, which the publication then expects
     let is_opening = shared.load_cur(seat) == Ok(0);
     match publish(shared, seat, held) {
         Ok(Some((0, Ok(won)))) => Some(is_opening && is_won(&won, 5, 0, 0)),
@@ -99,8 +105,8 @@ fn first_publishes<O: Object>(shared: &Shared<O>, seat: &mut CallerSeat) -> Opti
     }
 }
 
-// Whether the second caller, which expects the opening code in CUR, finds code 5 where it publishes replica 3, and then publishes it by
-// code 11 at place 2.
+// Whether the second caller, which expects the opening code in CUR, finds code 5 where it publishes replica 3, and then publishes it at place 2. The
+// code of that is the place times the 4 replicas, and the replica's number: 11. `None` where one of these was not done.
 fn second_publishes<O: Object>(shared: &Shared<O>, seat: &mut CallerSeat) -> Option<bool>
     requires new { IsNew shared.now seat.old }
     requires sized { IsSized (O.line_count shared.now.object) shared.now }
@@ -111,9 +117,11 @@ fn second_publishes<O: Object>(shared: &Shared<O>, seat: &mut CallerSeat) -> Opt
     let Ok(Some(held)) = link_and_renew(shared, seat, &adds(6), 3) else {
         return None;
     };
+    // it expects the opening code, finds that of the first caller, and gives the right back
     let Ok(Some((5, Err(held)))) = publish(shared, seat, held) else {
         return None;
     };
+    // now it expects the code that it found
     match publish(shared, seat, held) {
         Ok(Some((5, Ok(won)))) => Some(is_won(&won, 11, 5, 1)),
         _ => None,
@@ -137,6 +145,7 @@ fn are_handed_out(alloc: Global) -> Result<bool, AllocError> {
     }
 }
 
+// The closing of a table hands out the opening code and the codes of two publications, in rising order.
 #[test]
 fn published_codes_are_handed_out(rt: HostRuntime) -> Result<(), Fail> {
     holds(&rt, are_handed_out(rt.alloc())?);

@@ -24,7 +24,8 @@ use replica::{Region, begin};
 use std::alloc::{AllocError, Global};
 use std::test::Fail;
 
-// Does the full step of an entry on a memory that has room for `left` more entries before the end of places.
+/// Applies an entry to a whole replica in a memory: object, result and place. The memory has room for `left` more entries before the end of places,
+/// and afterwards for one fewer. The entry is of one of 8 callers, and its operation has 144 words.
 pub(crate) fn step_one<O: Object, M: Memory>(
     object: &O,
     mem: &mut M,
@@ -41,7 +42,7 @@ pub(crate) fn step_one<O: Object, M: Memory>(
     full_step(object, mem, entry)
 }
 
-// Whether the first `count` words of two memories are the same.
+// Whether the first `count` words of two memories are the same. The loads change neither memory.
 fn same_words<M: Memory, N: Memory>(mem: &mut M, other: &mut N, count: u64) -> Result<bool, Halt>
     requires mem { count ≤ M.size mem.old }
     requires other { count ≤ N.size other.old }
@@ -62,7 +63,8 @@ fn same_words<M: Memory, N: Memory>(mem: &mut M, other: &mut N, count: u64) -> R
     Ok(true)
 }
 
-// Does the full step of an entry in two memories, and returns whether all their words are then the same.
+// Does the full step of `entry` in two memories, and returns whether all their words are then the same. Both have room for `left` more entries, and
+// afterwards for one fewer.
 fn both<O: Object, M: Memory, N: Memory>(
     object: &O,
     mem: &mut M,
@@ -85,7 +87,8 @@ fn both<O: Object, M: Memory, N: Memory>(
     same_words(mem, plain, words)
 }
 
-// Does the full steps of up to `count` entries in two memories, and returns how many left the same words in both, up to one that did not.
+// Does the full steps of up to `count` entries in two memories, and returns how many left the same words in both, up to one that did not. The entries
+// look random, and are the same in each run.
 fn agree<O: Object, M: Memory, N: Memory>(
     object: &O,
     mem: &mut M,
@@ -106,8 +109,8 @@ fn agree<O: Object, M: Memory, N: Memory>(
     Ok(count)
 }
 
-// Does the full steps of `count` entries on a replica held exclusively, which is the image after its place, and on a plain
-// memory; returns how many left the same words in both, up to one that did not.
+// Does the full steps of `count` entries on the replica `held`, which is the image after its place, and on a plain memory. Returns how many left the
+// same words in both, up to one that did not. The place of the replica leaves room for as many entries.
 fn agree_held<O: Object, N: Memory>(
     shared: &Shared<O>,
     seat: &mut CallerSeat,
@@ -149,8 +152,8 @@ fn agree_taken<O: Object, N: Memory>(
     Ok(Some(agree_held(shared, seat, &held, plain, count)?))
 }
 
-// Does the full steps of `count` entries on replica 2 and on a plain memory of these words; returns the words of the plain memory, where
-// each entry left the same words in both.
+// Does the full steps of `count` entries on replica 2 and on a plain memory, which has `words` at first. Returns the words of the plain memory;
+// `None` where the replica was not used, or had other words after an entry. At first the words are a lawful base, with room for as many entries.
 fn agree_plain<O: Object>(
     shared: &Shared<O>,
     seat: &mut CallerSeat,
@@ -171,7 +174,8 @@ fn agree_plain<O: Object>(
     }
 }
 
-// The words of a plain memory after the full steps of a thousand entries of an object, where a replica had the same words after each.
+// The words of a plain memory after the full steps of a thousand entries of an object; `None` where a replica had other words after one of them. The
+// object has 64 to 16,384 lines.
 fn agreed<O: Object>(alloc: Global, object: O) -> Result<Option<Vec<u64>>, AllocError>
     requires enough { 64 ≤ O.line_count object }
     requires small { O.line_count object ≤ 16384 }

@@ -22,7 +22,7 @@ use replica::{ReadRegion, Region, begin, flush, outcome, place, replay_one};
 use std::alloc::{AllocError, Global};
 use std::test::Fail;
 
-// Takes a replica, if nobody holds it.
+// Takes replica `r` exclusively; `None` where somebody holds it. The caller has no right before, and nothing is noted of the replica that it takes.
 fn take<O: Object>(
     shared: &Shared<O>,
     seat: &mut CallerSeat,
@@ -38,7 +38,7 @@ fn take<O: Object>(
     Ok(right)
 }
 
-// The entry of a caller, of these words.
+// The entry of a caller from the words of a cell: its number, and the 144 words of its operation.
 fn entry_of(caller: u32, words: &[u64; 145]) -> Entry
     ensures caller { result.caller ≡ caller }
     ensures words { result.number ∷ result.op ≡ words.now }
@@ -53,7 +53,8 @@ fn entry_of(caller: u32, words: &[u64; 145]) -> Entry
     }
 }
 
-// Reads the entry of the place of a replica held exclusively that is the image after that place.
+// Reads the entry with this ticket from the log. It is the next one for the replica `held`, which is the image after as many entries. The caller
+// knows that the entry is linked, and protects its ticket.
 fn read_next<O: Object>(
     shared: &Shared<O>,
     seat: &mut CallerSeat,
@@ -73,7 +74,7 @@ fn read_next<O: Object>(
     Ok(entry_of(caller, &words))
 }
 
-// Replays the entry with a ticket on a replica held exclusively that is the image after that place.
+// Applies the entry with this ticket to the replica `held`, which is the image after as many entries, and then after one more.
 fn replay_ticket<O: Object>(
     shared: &Shared<O>,
     seat: &mut CallerSeat,
@@ -91,7 +92,8 @@ fn replay_ticket<O: Object>(
     replay_one(&mut Region::of(shared, seat, held), &next)
 }
 
-// Replays the entries from the place of a replica held exclusively up to a ticket.
+// Applies the entries with the tickets from `place` to before `end` to the replica `held`, which is the image after the place. The caller knows that
+// they are linked, and protects the tickets from the place on.
 fn replay_to<O: Object>(
     shared: &Shared<O>,
     seat: &mut CallerSeat,
@@ -113,8 +115,8 @@ fn replay_to<O: Object>(
     Ok(())
 }
 
-// Replays the entries from the place of a replica held exclusively up to a ticket, under a protection that is released afterwards.
-// Nobody collects cells here, so that no caller is behind: one that is stops as if it was halted.
+// Applies the entries with the tickets from `place` to before `end` to the replica `held`, under a protection that is released afterwards. Nobody
+// collects cells here, so that no caller is behind: one that is stops as if it was halted.
 fn replay_protected<O: Object>(
     shared: &Shared<O>,
     seat: &mut CallerSeat,
@@ -139,7 +141,8 @@ fn replay_protected<O: Object>(
     unprotect(shared, seat)
 }
 
-// Takes a replica, replays the entries up to a ticket on it, persists what was stored, and turns the right into a shared one.
+/// Takes replica `r`, applies the entries with tickets below `end` to it, persists what was stored, and turns the right into a shared one. `None`
+/// where somebody holds the replica, or its place is above `end`.
 pub(crate) fn renew<O: Object>(
     shared: &Shared<O>,
     seat: &mut CallerSeat,
@@ -176,7 +179,7 @@ struct Seen {
     words: [u64; 2],
 }
 
-// Whether a caller takes a replica shared and finds in it what is wanted.
+// Whether a caller takes replica `r` shared and finds in it what `want` says; `false` also where it is refused or stops.
 fn sees<O: Object>(shared: &Shared<O>, seat: &mut CallerSeat, r: u64, want: &Seen) -> bool
     requires free { IsFree shared.now seat.old }
     requires sized { IsSized (O.line_count shared.now.object) shared.now }
@@ -188,7 +191,7 @@ fn sees<O: Object>(shared: &Shared<O>, seat: &mut CallerSeat, r: u64, want: &See
     }
 }
 
-// Takes a replica shared, if nobody holds it exclusively.
+// Takes replica `r` shared; `None` where somebody holds it exclusively.
 fn share<O: Object>(
     shared: &Shared<O>,
     seat: &mut CallerSeat,
@@ -203,7 +206,7 @@ fn share<O: Object>(
     Ok(right.ok())
 }
 
-// Whether a caller finds in a replica that it holds shared what is wanted.
+// Whether a caller finds in the replica `held`, which it holds shared, what `want` says.
 fn sees_held<O: Object>(
     shared: &Shared<O>,
     seat: &mut CallerSeat,
@@ -227,7 +230,8 @@ pub(crate) fn adds(n: u64) -> [u64; 144] {
     op
 }
 
-// Whether a caller that linked an entry replays it on a replica, as the other caller then sees it.
+// Whether caller 0 links an entry that adds 5 and applies it to replica 1, and caller 1 then finds there place 1, and the number and the reply of
+// that entry.
 fn is_own_replayed(alloc: Global) -> Result<bool, AllocError> {
     let (shared, mut first, mut second) = made(alloc, Tally, &NO_LIMITS)?;
     let Ok(LinkTried::Linked { ticket: 0 }) = update(&shared, &mut first, &adds(5)) else {
@@ -245,20 +249,21 @@ fn is_own_replayed(alloc: Global) -> Result<bool, AllocError> {
     Ok(token.replica() == 1 && token.caller() == 0 && sees(&shared, &mut second, 1, &want))
 }
 
-// The number and a word of the operation, which the cell does not have yet, and 2 steps to link; a try and the load of
-// the place; 2 steps to protect it; 146 steps for the entry; for the full step the place loaded, Tally's load and store, the
-// number loaded and stored, the reply loaded and its first word stored, the place stored; 1 step to give the protection up;
-// 4 words to persist; a downgrade.
+// How many steps a caller makes that links its first entry and renews a replica with it. The number and a word of the operation, which the cell does
+// not have yet, and 2 steps to link; a try and the load of the place; 2 steps to protect it; 146 steps for the entry; for the full step the place
+// loaded, Tally's load and store, the number loaded and stored, the reply loaded and its first word stored, the place stored; 1 step to give the
+// protection up; 4 words to persist; a downgrade.
 const ALL: u64 = 4 + 2 + 2 + 146 + (1 + 2 + 2 + 145 + 1) + 1 + 4 + 1;
 
-// Whether a caller with a limit of steps stops there, or links an entry and renews a replica with it.
+// Whether a caller with a limit of steps links an entry and renews a replica with it exactly where the limit allows `ALL` steps, and else stops at
+// the limit.
 fn stops_at(alloc: Global, limit: u64) -> Result<bool, AllocError> {
     let (shared, mut first, _second) = made(alloc, Tally, &[limit, NO_LIMIT])?;
     let is_done = update_and_renew(&shared, &mut first, &adds(5), 1);
     Ok(is_done == (limit >= ALL) && first.steps() == limit.min(ALL))
 }
 
-// The first limit of steps at which a caller does not stop, or has not linked and renewed with as many steps as it takes.
+// The first limit of steps at which a caller does not do as `stops_at` says; `None` where there is none.
 fn first_wrong_limit(alloc: Global) -> Result<Option<u64>, AllocError> {
     for limit in 0..=ALL {
         if !stops_at(alloc, limit)? {
@@ -268,7 +273,8 @@ fn first_wrong_limit(alloc: Global) -> Result<Option<u64>, AllocError> {
     Ok(None)
 }
 
-// A caller without entries links one and renews a replica with it. A halted caller did not.
+// A caller without entries links one with the operation `op`, and renews replica `r` with it. Returns whether both were done; `false` also for a
+// caller that was halted.
 fn update_and_renew<O: Object>(
     shared: &Shared<O>,
     seat: &mut CallerSeat,
@@ -289,6 +295,7 @@ fn update_and_renew<O: Object>(
     }
 }
 
+// An entry is applied to a replica, as another caller then sees it, and each lower limit of steps stops a caller before that.
 #[test]
 fn entries_are_replayed_unless_a_limit_halts(rt: HostRuntime) -> Result<(), Fail> {
     let alloc = rt.alloc();

@@ -14,7 +14,7 @@ use mutation_queue::{Collected, Protected, collect, protect, unprotect};
 use std::alloc::{AllocError, Global};
 use std::test::Fail;
 
-// Protects the tickets from a place on, if the caller protects nothing yet.
+// Protects the tickets from a place on; `None` where the caller has a protection already.
 fn try_protect(
     shared: &Shared<Tally>,
     seat: &mut CallerSeat,
@@ -31,7 +31,7 @@ fn try_protect(
     Some(protect(shared, seat, place))
 }
 
-// Releases the caller's protection, if it stands and is confirmed.
+// Releases the caller's protection; `None` where it has none that is confirmed.
 fn give_up(shared: &Shared<Tally>, seat: &mut CallerSeat) -> Option<Result<(), Halt>>
     requires seat { IsSeatOf shared.now seat.old }
     ensures seat { IsSeatOf shared.now seat.new }
@@ -43,7 +43,7 @@ fn give_up(shared: &Shared<Tally>, seat: &mut CallerSeat) -> Option<Result<(), H
     Some(unprotect(shared, seat))
 }
 
-// Collects cells up to a target, if the code that the caller found last in CUR is not before it.
+// Collects cells up to a target; `None` where the target is above the place of the code that the caller found last in CUR.
 fn try_collect(
     shared: &Shared<Tally>,
     seat: &mut CallerSeat,
@@ -60,7 +60,8 @@ fn try_collect(
     Some(collect(shared, seat, target))
 }
 
-// What a caller collects up to a target while the other protects the tickets from a place on, which it then releases.
+// What the caller of `seat` collects up to a target while the caller of `other` protects the tickets from a place on. That protection is released
+// afterwards. `None` where one of the three was not done.
 fn collect_beside(
     shared: &Shared<Tally>,
     seat: &mut CallerSeat,
@@ -98,6 +99,7 @@ fn protects_from(seat: &CallerSeat, place: u64) -> bool {
 fn is_low_compared(alloc: Global) -> Result<bool, AllocError> {
     // LOW and FREE open at the place of the base
     let (shared, mut first, _second) = made(alloc, 100, &NO_LIMITS)?;
+    // the place is stated, LOW is loaded, and the protection is released: three steps, and no refusal is counted
     let is_behind = matches!(
         try_protect(&shared, &mut first, 99),
         Some(Ok(Protected::Behind { low: 100 }))
@@ -105,6 +107,7 @@ fn is_low_compared(alloc: Global) -> Result<bool, AllocError> {
     let is_free = matches!(first.protection(), Protection::Unprotected)
         && first.steps() == 3
         && first.met() == 0;
+    // the place is stated and LOW is loaded: two steps
     let is_kept = matches!(
         try_protect(&shared, &mut first, 100),
         Some(Ok(Protected::Kept))
@@ -112,7 +115,7 @@ fn is_low_compared(alloc: Global) -> Result<bool, AllocError> {
     Ok(is_behind && is_free && is_kept && protects_from(&first, 100) && first.steps() == 5)
 }
 
-// Whether a collection was made that found this FREE, and this least need of this holder.
+// Whether cells were collected, with this FREE at the end, and with `need` the least need of all callers, which `holder` is the first to have.
 fn is_collected(
     collected: Option<Result<Collected, Halt>>,
     free: u64,
@@ -125,7 +128,8 @@ fn is_collected(
     }
 }
 
-// Whether a caller that collects finds the need of another caller, which is 103, and none where no caller needs a ticket. FREE stays 100.
+// Whether a caller that collects finds the need of the other caller, which is 103, and no need where no caller protects a ticket: that is given as
+// 2^64 - 1. FREE stays 100. The other caller makes 8 steps: two to protect, one to release that, and five to collect.
 fn is_need_noted(alloc: Global) -> Result<bool, AllocError> {
     let (shared, mut first, mut second) = made(alloc, 100, &NO_LIMITS)?;
     let beside_need = collect_beside(&shared, &mut first, &mut second, 100, 103);
@@ -138,7 +142,7 @@ fn is_need_noted(alloc: Global) -> Result<bool, AllocError> {
     )
 }
 
-// Whether a caller with a limit of steps that collects stops there, or collects.
+// Whether a caller collects in five steps where its limit allows them, and else stops at the limit.
 fn stops_at(alloc: Global, limit: u64) -> Result<bool, AllocError> {
     let (shared, mut first, _second) = made(alloc, 100, &[limit, NO_LIMIT])?;
     let collected = try_collect(&shared, &mut first, 100);
@@ -151,7 +155,7 @@ fn stops_at(alloc: Global, limit: u64) -> Result<bool, AllocError> {
     Ok(is_right && first.steps() == limit.min(5))
 }
 
-// The first limit of steps at which a caller neither stops nor has collected as it should.
+// The first limit of steps at which a caller does not do as `stops_at` says; `None` where there is none.
 fn first_wrong_limit(alloc: Global) -> Result<Option<u64>, AllocError> {
     for limit in 0..7 {
         if !stops_at(alloc, limit)? {
@@ -161,6 +165,7 @@ fn first_wrong_limit(alloc: Global) -> Result<Option<u64>, AllocError> {
     Ok(None)
 }
 
+// A protection is compared with LOW, a collection finds the least need, and each limit of steps stops it where it should.
 #[test]
 fn tickets_are_protected_and_cells_collected(rt: HostRuntime) -> Result<(), Fail> {
     let alloc = rt.alloc();

@@ -18,7 +18,8 @@ pub(crate) const NO_LIMIT: u64 = u64::MAX;
 /// The limits of two callers of which neither has one.
 pub(crate) const NO_LIMITS: [u64; 2] = [NO_LIMIT, NO_LIMIT];
 
-/// A table of two callers, that opens with an object's first base, and its seats.
+/// A table of two callers, which opens with an object's first base at place 0, and the seats of caller 0 and caller 1. `limits` are their limits of
+/// steps. The object has 64 to 16,384 lines.
 pub(crate) fn made<O: Object>(
     alloc: Global,
     object: O,
@@ -40,7 +41,7 @@ pub(crate) fn made<O: Object>(
     }
 }
 
-/// The items of a list of two.
+/// The two items of a list of two, in their order; `None` where it has another number of items.
 pub(crate) fn two<T: Drop>(mut items: Vec<T>) -> Option<(T, T)>
     ensures { IfSome result (λ r. items.items ≡ r.0 ∷ r.1 ∷ []) }
 {
@@ -53,7 +54,8 @@ pub(crate) fn two<T: Drop>(mut items: Vec<T>) -> Option<(T, T)>
     }
 }
 
-/// A caller without entries announces an operation in its cell 0 and tries to link it.
+/// A caller without entries announces the operation `op` in its cell 0, and tries up to four times to link it. It has no right before and none after,
+/// and knows of its entry where that was linked.
 pub(crate) fn update<O: Object>(
     shared: &Shared<O>,
     seat: &mut CallerSeat,
@@ -78,7 +80,7 @@ fn are_pair<O: Object>(shared: &Shared<O>, first: &CallerSeat, second: &CallerSe
     shared.callers() == 2 && first.number() == 0 && second.number() == 1
 }
 
-/// Closes a table of two callers.
+/// Closes a table of two callers, and returns what it left. `None` where the seats are not those of callers 0 and 1, or memory ran out.
 pub(crate) fn closed<O: Object>(
     alloc: Global,
     shared: Shared<O>,

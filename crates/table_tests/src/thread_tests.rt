@@ -22,10 +22,13 @@ use std::rt::Runtime;
 use std::test::Fail;
 use std::thread::{Threads, join};
 
-// The ticket of a caller's entry, and the result of its turns.
+// What a caller did: the ticket with which it linked its entry, and the sums over its turns. In a turn a caller tries to take one replica, applies
+// the linked entries to it up to that ticket, makes it durable, and gives it up.
 type Done = (u64, RaisesFront);
 
-// A caller without entries links one, and makes `count` turns.
+// A caller without entries links one with the operation `op`, and makes `count` turns, in each of which it tries to take one replica and bring it up
+// to that entry. Returns the ticket and what the turns did. `None` where the entry was not linked, since others linked first at each try or no ticket
+// is left; `Halt` where the caller stopped.
 fn link_and_attempt<O: Object>(
     shared: &Shared<O>,
     seat: &mut CallerSeat,
@@ -45,7 +48,8 @@ fn link_and_attempt<O: Object>(
     }
 }
 
-// Links an entry and makes `count` turns on a seat that goes to another thread, and returns the seat with what was done.
+// Links an entry with the operation `op`, and tries `count` times to take a replica and bring it up to that entry, on a seat that was moved to
+// another thread. Returns the seat with what was done: `None` where the entry was not linked or the caller stopped.
 fn on_thread<O: Object>(
     shared: &Shared<O>,
     mut seat: CallerSeat,
@@ -60,7 +64,7 @@ fn on_thread<O: Object>(
     (seat, done.ok().flatten())
 }
 
-// What two threads on one table did, and what the table left.
+// What callers 0 and 1 of one table did (`first` and `second`), and what the table left at its closing (`left`).
 #[derive(Drop)]
 struct Ended {
     first: Done,
@@ -68,7 +72,8 @@ struct Ended {
     left: Remains,
 }
 
-// Two callers on threads of their own link an entry each and make `count` turns each; both seats come back.
+// Two callers on threads of their own link an entry each, and each tries `count` times to take a replica and bring it up to its entry. The first
+// takes the first of `ops` and of `scratches`, the second the other. Returns for each its seat, and what it did.
 fn joined<R: Runtime + Threads + Sync>(
     rt: &R,
     shared: &Shared<DocStore>,
@@ -92,8 +97,8 @@ fn joined<R: Runtime + Threads + Sync>(
     )
 }
 
-// Makes a table on which two callers on threads link an entry each and make `count` turns, closes it, and returns what they did and what it
-// left.
+// Makes a table on which two callers on threads link an entry each and try `count` times each to bring a replica up, closes it, and returns what they
+// did and what it left. `None` where a caller linked nothing or stopped, or the table was not closed.
 fn two_threads<R: Runtime + Threads + Sync>(
     rt: &R,
     alloc: Global,
@@ -106,7 +111,7 @@ fn two_threads<R: Runtime + Threads + Sync>(
     Ok(both_ended(one, other, closed(alloc, shared, first, second)?))
 }
 
-// What two callers did and their table left, where both made their turns and the table was closed.
+// What two callers did and their table left; `None` where one of them linked nothing or stopped, or the table was not closed.
 fn both_ended(first: Option<Done>, second: Option<Done>, left: Option<Remains>) -> Option<Ended> {
     Some(Ended {
         first: first?,
@@ -115,7 +120,9 @@ fn both_ended(first: Option<Done>, second: Option<Done>, left: Option<Remains>) 
     })
 }
 
-// The words of a plain memory after the full steps of two entries.
+// The words of a replica, in a plain memory, after the entry `one` and then `other` were applied to the opening image; `None` where one of the two
+// was not. Each entry is of one of 8 callers, and its operation has 144 words. The last argument of each step counts the entries that are still to
+// come.
 fn after_both(alloc: Global, one: &Entry, other: &Entry) -> Result<Option<Vec<u64>>, AllocError>
     requires one { (one.now.caller < 8) × Words 144 one.now.op }
     requires other { (other.now.caller < 8) × Words 144 other.now.op }
@@ -132,7 +139,7 @@ fn after_both(alloc: Global, one: &Entry, other: &Entry) -> Result<Option<Vec<u6
     Ok(Some(plain.into_words()))
 }
 
-// How many of the four replicas were left with these words in memory and on the medium, with no word dirty.
+// How many of the four replicas were left with `words` in memory and on the medium, with no word dirty.
 fn clean_with(left: &Remains, words: &[u64]) -> u64 {
     let mut count = 0u64;
     for r in 0..4 {
@@ -143,12 +150,12 @@ fn clean_with(left: &Remains, words: &[u64]) -> u64 {
     count
 }
 
-// How many replicas were left as the image that a table opens with.
+// How many of the four replicas were left as the image that a table opens with.
 fn at_opening(alloc: Global, left: &Remains) -> Result<u64, AllocError> {
     Ok(clean_with(left, &opening(alloc)?))
 }
 
-// How many replicas were left as the image after one entry.
+// How many of the four replicas were left as the image after the entry `one` alone.
 fn after_first(alloc: Global, left: &Remains, one: &Entry) -> Result<u64, AllocError>
     requires { one.now.caller < 8 }
 {
@@ -156,7 +163,7 @@ fn after_first(alloc: Global, left: &Remains, one: &Entry) -> Result<u64, AllocE
     Ok(clean_with(left, &words))
 }
 
-// How many replicas were left as the image after two entries.
+// How many of the four replicas were left as the image after the entry `one` and then `other`; 0 where that image cannot be made.
 fn after_second(
     alloc: Global,
     left: &Remains,
@@ -172,8 +179,8 @@ fn after_second(
     }
 }
 
-// The sum of the places of all four replicas, where each was left as the image after no entry, after one, or after both. `at_place_0` and its
-// neighbours count the replicas at each place.
+// The sum of the places of all four replicas, where each was left as the image after no entry, after `one`, or after `one` and then `other`; `None`
+// where a replica was left as something else. `at_place_0` and its neighbours count the replicas at each place.
 fn places(
     alloc: Global,
     left: &Remains,
@@ -196,7 +203,8 @@ fn places(
     })
 }
 
-// The sum of the places of all four replicas that two threads left, where each is an image of their entries in the order of the tickets.
+// The sum of the places of all four replicas that the two callers left, where each is an image of their entries in the order of the tickets; else
+// `None`. The operations of caller 0 and caller 1 are `ops`.
 fn places_of(
     alloc: Global,
     ended: &Ended,
@@ -210,7 +218,8 @@ fn places_of(
     }
 }
 
-// How many entries two callers replayed, where each made `count` turns and all places were right.
+// How many entries two callers applied to replicas in all; `None` where one of them did not make `count` tries of a replica, or a replica was not at
+// the right place after one. A try whose replica another held counts too.
 fn replayed(first: &RaisesFront, second: &RaisesFront, count: u64) -> Option<u64> {
     let all = first.taken.saturating_add(first.refused) == count
         && second.taken.saturating_add(second.refused) == count;
@@ -221,8 +230,9 @@ fn replayed(first: &RaisesFront, second: &RaisesFront, count: u64) -> Option<u64
     }
 }
 
-// How many entries two threads replayed on a table of their own, where each made `count` turns, all places were right, and the places of the
-// images that are left add up to this number.
+// Runs two threads on a table of their own: each links an entry, and tries `count` times to take a replica and bring it up to that entry. Returns how
+// many entries were applied to replicas. `None` where a caller stopped or linked nothing, a replica was at a wrong place after a try, or the places
+// of the replicas that are left do not add up to that number.
 fn turned<R: Runtime + Threads + Sync>(
     rt: &R,
     alloc: Global,
@@ -232,13 +242,14 @@ fn turned<R: Runtime + Threads + Sync>(
     let Some(ended) = two_threads(rt, alloc, ops, count)? else {
         return Ok(None);
     };
+    // each entry that is applied to a replica raises its place by 1, from 0 on
     let entries = replayed(&ended.first.1, &ended.second.1, count);
     let places = places_of(alloc, &ended, ops)?;
     Ok(if places == entries { entries } else { None })
 }
 
-// How many entries were replayed on `tables` tables, on each of which two threads make a hundred turns each; `None` where a table was left
-// with something wrong.
+// How many entries were applied to replicas on `tables` tables together, on each of which two threads make a hundred tries each to take a replica and
+// bring it up; `None` where a table was left with something wrong.
 fn replayed_on<R: Runtime + Threads + Sync>(
     rt: &R,
     alloc: Global,
@@ -255,8 +266,9 @@ fn replayed_on<R: Runtime + Threads + Sync>(
     Ok(Some(replayed))
 }
 
-// What two callers did, one after the other, and how many write sets each took: the second one's turn, on a replica of its own, brings that
-// on by the set that the first one offered, and by its own step.
+// Caller 0 links an entry and tries two replicas, then caller 1 links one and tries one replica. Returns what they did, and how many write sets of
+// others caller 0 and caller 1 used. The replica of caller 1 is its own: it brings that on by the write set that caller 0 offered, and by a step of
+// its own.
 fn one_then_other(
     alloc: Global,
     ops: &[[u64; 144]; 2],
@@ -273,7 +285,8 @@ fn one_then_other(
     }
 }
 
-// Whether the second of two callers takes the set of the first, and both leave the images after one entry and after both.
+// Whether the second of two callers uses the write set of the first, and all replicas are left as images. Their places add up to 3: caller 0 leaves
+// one after its entry, and caller 1 leaves one after both entries.
 fn set_is_taken(alloc: Global) -> Result<bool, AllocError> {
     let ops = [put(b"one", 40), put(b"other", 150)];
     let Some((ended, taken, other_taken)) = one_then_other(alloc, &ops)? else {
@@ -284,14 +297,15 @@ fn set_is_taken(alloc: Global) -> Result<bool, AllocError> {
     Ok(is_right && taken == 0 && other_taken == 1 && places == Some(3))
 }
 
+// A caller uses the write set that another offered for its entry, and does not do the step of that entry itself.
 #[test]
 fn an_offered_set_is_taken(rt: HostRuntime) -> Result<(), Fail> {
     holds(&rt, set_is_taken(rt.alloc())?);
     Ok(())
 }
 
-// On each of a hundred tables, two threads make a hundred turns each. Replica 0 is the current one, and refused to both. What is
-// replayed on the other three is at most both entries each. The caller of the second entry brings each replica that it takes up to
+// On each of a hundred tables, two threads make a hundred tries each to take a replica and bring it up. Replica 0 is the current one, and refused to
+// both. What is replayed on the other three is at most both entries each. The caller of the second entry brings each replica that it takes up to
 // both, and the other thread holds at most one at a time.
 #[test]
 fn two_threads_leave_images(rt: HostRuntime) -> Result<(), Fail> {

@@ -31,7 +31,7 @@ fn made(
 // The mark of an exclusive right in a lock word, 2^32.
 const EXCLUSIVE: u64 = 4_294_967_296;
 
-// Takes a replica exclusively and gives it up again, or returns the word found where it was refused.
+// Takes replica `r` exclusively and gives it up again, and returns `None`; where it is refused, the lock word that was found.
 fn take_and_release(
     shared: &Shared<Tally>,
     seat: &mut CallerSeat,
@@ -50,8 +50,8 @@ fn take_and_release(
     }
 }
 
-// The answer to a shared try of the second caller while the first holds the replica exclusively, and the lock word that is left after the
-// first released its right, where it is not 0.
+// The answer to a shared try of the second caller while the first holds replica `r` exclusively, and the lock word that is left after the first
+// released its right, or `None` where that is 0.
 fn words_left(
     shared: &Shared<Tally>,
     first: &mut CallerSeat,
@@ -71,18 +71,20 @@ fn words_left(
     Ok((tried, left))
 }
 
-// The word that the second caller finds in its shared try, and the lock word that is left when the first has released its right, where it is
-// not 0. The number of the row is the second caller's limit of steps.
+// A shared try adds 1 to the lock word, and takes it back where the word has the mark of an exclusive right. First: the word that the second caller
+// finds in its shared try, or `None` where it is halted. Second: the lock word that is left when the first has released its right, or `None` where
+// that is 0. The number of the row is the second caller's limit of steps.
 const REFUSED: [(Option<u64>, Option<u64>); 3] = [
     // the try is not begun
     (None, None),
-    // the passer's mark is left
+    // the 1 that the try added is left
     (None, Some(1)),
-    // the passer's mark is taken back
+    // the 1 that the try added is taken back
     (Some(EXCLUSIVE), None),
 ];
 
-// Whether a shared try beside an exclusive right, with a limit of steps, finds the word `found` or halts, and leaves the lock word `left`.
+// Whether a shared try beside an exclusive right, with a limit of steps, finds the word `found`, or halts where that is `None`, and leaves the lock
+// word `left`, or 0 where that is `None`.
 fn stops_at(
     alloc: Global,
     limit: u64,
@@ -101,7 +103,7 @@ fn stops_at(
     Ok(is_tried && word == left && second.steps() == limit)
 }
 
-// The first limit of steps at which a try finds or leaves another word than its row says.
+// The first limit of steps at which a try finds or leaves another word than its row says; `None` where there is none.
 fn first_wrong_limit(alloc: Global) -> Result<Option<usize>, AllocError> {
     for (limit, (found, left)) in REFUSED.iter().enumerate() {
         if !stops_at(alloc, limit as u64, *found, *left)? {
@@ -111,6 +113,7 @@ fn first_wrong_limit(alloc: Global) -> Result<Option<usize>, AllocError> {
     Ok(None)
 }
 
+// At each limit of steps, a refused shared try leaves the lock word that its row says.
 #[test]
 fn lock_words_are_exact(rt: HostRuntime) -> Result<(), Fail> {
     holds(&rt, first_wrong_limit(rt.alloc())?.is_none());

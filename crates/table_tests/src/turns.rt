@@ -16,8 +16,8 @@ use mutation_queue::{Protected, protect, unprotect};
 use replica::{begin, flush};
 use strong_trylock::{ExclusiveTried, downgrade, release_downgraded, try_exclusive};
 
-/// The result of a caller's turns: how many replicas it took, how many others held, how many entries it replayed, and
-/// whether each place was that of the image up to the ticket.
+/// What a caller's turns did, in each of which it tries one replica: how many it took (`taken`), how many others held (`refused`), and how many
+/// entries it applied in all (`replayed`). `right` is whether each replica taken was then the image up to the ticket, or was later already.
 #[derive(Drop)]
 pub(crate) struct RaisesFront {
     pub(crate) taken: u64,
@@ -26,7 +26,7 @@ pub(crate) struct RaisesFront {
     pub(crate) right: bool,
 }
 
-/// Tries a replica exclusively.
+/// Tries to take replica `r` exclusively; `None` where another caller holds it, and then this one has no right.
 pub(crate) fn try_one<O: Object>(
     shared: &Shared<O>,
     seat: &mut CallerSeat,
@@ -48,9 +48,8 @@ pub(crate) fn try_one<O: Object>(
     }
 }
 
-// Brings a replica held exclusively up to a ticket: where its place is at most the ticket, the entries are read under a protection,
-// which is released again. Nobody collects cells here, so that no caller is behind, and none has a protection before: one that is, or
-// has, stops as if it was halted.
+// Brings the replica `held` up to a ticket: where its place is at most the ticket, the entries are read under a protection, which is released again.
+// Nobody collects cells here, so that no caller is behind, and none has a protection before: one that is, or has, stops as if it was halted.
 fn replay_protected<O: Object>(
     shared: &Shared<O>,
     seat: &mut CallerSeat,
@@ -83,11 +82,11 @@ fn replay_protected<O: Object>(
     Ok(())
 }
 
-/// The places of a replica before a turn and after it.
+/// The places of a replica before a caller brought it up and after.
 pub(crate) type Places = (u64, u64);
 
-// Brings a replica that was just taken up to a ticket, and makes it durable. A caller that does not know that the ticket is linked
-// stops as if it was halted.
+// Brings the replica `held`, which was just taken, up to a ticket, and makes it durable. Returns its places before and after. A caller that does not
+// know that the ticket is linked stops as if it was halted.
 fn bring_up<O: Object>(
     shared: &Shared<O>,
     seat: &mut CallerSeat,
@@ -110,7 +109,7 @@ fn bring_up<O: Object>(
     Ok((before, after))
 }
 
-// Brings a replica that was just taken up to a ticket, and gives it up.
+// Brings the replica `held`, which was just taken, up to a ticket, makes it durable, and gives it up. Returns its places before and after.
 fn renew<O: Object>(
     shared: &Shared<O>,
     seat: &mut CallerSeat,
@@ -129,7 +128,8 @@ fn renew<O: Object>(
     Ok(places)
 }
 
-/// Takes a replica, where nobody holds it, brings it up to a ticket, and gives it up.
+/// Takes replica `r`, applies the entries up to a ticket to it, makes it durable, and gives it up. Returns its places before and after; `None` where
+/// another caller holds it. The caller has no right before and none after.
 pub(crate) fn turn<O: Object>(
     shared: &Shared<O>,
     seat: &mut CallerSeat,
@@ -149,7 +149,7 @@ pub(crate) fn turn<O: Object>(
     }
 }
 
-/// Makes `count` turns, on one replica after another from the caller's first on.
+/// Calls `turn` `count` times, on one replica after another from the first of the caller's own two on, and in a circle. Returns the sums.
 pub(crate) fn make_attempts<O: Object>(
     shared: &Shared<O>,
     seat: &mut CallerSeat,
@@ -177,8 +177,8 @@ pub(crate) fn make_attempts<O: Object>(
     Ok(done)
 }
 
-// The result of turns with one more turn. Its place is right where it is the one above the ticket, or was above the ticket before and is the
-// same.
+// The sums `done` with one more turn, which gave `places`. The place after it is right where it is the one above the ticket, or was above the ticket
+// before and is the same.
 fn noted(mut done: RaisesFront, places: Option<Places>, ticket: u64) -> RaisesFront {
     match places {
         None => done.refused = done.refused.saturating_add(1),

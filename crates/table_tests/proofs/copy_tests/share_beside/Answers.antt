@@ -3,6 +3,7 @@ use Rattle.replica.specs.Copies.{HoldsBoth}
 use Rattle.replica.proofs.CopySteps.{both_tried}
 use Rattle.table_tests.proofs.copy_tests.share_beside.Goals as goal
 
+-- where the shared try handed a hold out, the caller holds both replicas
 pub returns-clause-both : goal.returns-clause-both
 returns-clause-both g c =
     let shared = c.args.shared.now in

@@ -3,6 +3,7 @@ use Rattle.cx_base.specs.Tally.{IsTally}
 use Rattle.mutation_queue.proofs.Bases.{moved}
 use Rattle.table_tests.proofs.links.base_at.Goals as goal
 
+-- a lawful base of Tally is lawful at another place too
 pub returns-clause-lawful : goal.returns-clause-lawful
 returns-clause-lawful c =
     let fresh = c.in_ok-fresh in

@@ -3,6 +3,7 @@ use Rattle.std.proofs.lemmas.Result.{IfOk-weaker}
 use Rattle.table_tests.proofs.OneOfEach.{one_of_each}
 use Rattle.table_tests.proofs.links.closed_after_both.Goals as goal
 
+-- each caller has one entry, so the history has these two and no others
 pub returns : goal.returns
 returns c =
     IfOk-weaker c.closed.result _ _

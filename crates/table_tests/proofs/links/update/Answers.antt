@@ -2,6 +2,7 @@ use Rattle.std.proofs.lemmas.Result.{IfOk-weaker}
 use Rattle.table_tests.proofs.Updates.{has_tried}
 use Rattle.table_tests.proofs.links.update.Goals as goal
 
+-- the caller has the entry where a try linked it, and else no entry
 pub returns-clause-tried : goal.returns-clause-tried
 returns-clause-tried c =
     IfOk-weaker c.link-tried.result _ _

@@ -7,6 +7,7 @@ use Rattle.replica.specs.Stepping.{IsSteppable}
 use Rattle.replica.proofs.Stepping.{image_steppable}
 use Rattle.table_tests.proofs.region_tests.agree_held.Goals as goal
 
+-- the place of the replica leaves room for `count` entries, so as many full steps can be done on its region
 pub agree-requires-clause-mem : goal.agree-requires-clause-mem
 agree-requires-clause-mem g c =
     let Can : Running g.row.O.Denot → g.row.O.Denot → Seated → Type 0 = λ r o s. IsSteppable (g.O.Object.line_count o) (g.O.Object.lawful o) (region_words (g.O.Object.line_count r.object)) true (FitsKnown (g.O.Object.line_count r.object) (g.O.Object.lawful r.object) r.base (g.O.Object.step r.object) s.known) c.args.count in

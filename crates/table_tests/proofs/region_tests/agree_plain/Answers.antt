@@ -4,6 +4,7 @@ use Rattle.replica.specs.Stepping.{IsSteppable}
 use Rattle.replica.proofs.Stepping.{plain_steppable}
 use Rattle.table_tests.proofs.region_tests.agree_plain.Goals as goal
 
+-- the words are a lawful base with room for `count` entries, so as many full steps can be done on the plain memory
 pub agree_taken-requires-clause-plain : goal.agree_taken-requires-clause-plain
 agree_taken-requires-clause-plain g c =
     let object = c.args.shared.now.object in

@@ -2,6 +2,7 @@ use Rattle.std.proofs.Common.{◌≡◌}
 use Rattle.cx_base.specs.Memory.{Becomes}
 use Rattle.table_tests.proofs.region_tests.same_words.Given as goal
 
+-- the loads so far changed neither memory
 abbrev pub invariant-loop-at : goal.invariant-loop-at
 invariant-loop-at g l = record {
   mem : Becomes (g.M.Memory.stands l.fn.mem) (g.M.Memory.stands l.mem) ◌≡◌;

@@ -1,6 +1,7 @@
 use Rattle.replica.proofs.Stepping.{stepped}
 use Rattle.table_tests.proofs.region_tests.step_one.Goals as goal
 
+-- after the full step of an entry, one full step fewer can be done on the memory
 pub returns : goal.returns
 returns g c =
     let object = c.args.object.now in

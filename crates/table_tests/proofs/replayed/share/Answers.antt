@@ -3,6 +3,7 @@ use Rattle.replica.specs.Held.{IsHeldShared}
 use Rattle.table_tests.proofs.Tried.{shared_tried}
 use Rattle.table_tests.proofs.replayed.share.Goals as goal
 
+-- where the try handed a hold out, the caller holds the replica shared
 pub returns : goal.returns
 returns g c =
     let shared = c.args.shared.now in

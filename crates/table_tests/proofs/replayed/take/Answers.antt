@@ -1,6 +1,7 @@
 use Rattle.table_tests.proofs.Tried.{taken_tried}
 use Rattle.table_tests.proofs.replayed.take.Goals as goal
 
+-- where the try handed a right out, the replica was just taken by it
 pub returns-clause-taken : goal.returns-clause-taken
 returns-clause-taken g c =
     let shared = c.args.shared.now in

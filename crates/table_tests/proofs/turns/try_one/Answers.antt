@@ -1,6 +1,7 @@
 use Rattle.table_tests.proofs.Rights.{took_it}
 use Rattle.table_tests.proofs.turns.try_one.Goals as goal
 
+-- the try that answered a right just took the replica, and the caller has no other right
 pub returns-in-Got-clause-taken : goal.returns-in-Got-clause-taken
 returns-in-Got-clause-taken g c =
     let e = c.in_ok-held.ensures in
