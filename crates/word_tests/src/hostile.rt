@@ -56,7 +56,8 @@ const UPGRADE: Lie = &[
     (13, 7, 1),
 ];
 
-// Lies in the header, of both versions. An entry is a line, a place in it and the word put there.
+// Lies in the header, of both versions. An entry is a line, a place in it and the word put there. The header is line 0. Its places are 1 for the
+// root, 3 for the end, 5 for how many pairs there are, and 7, which has to be 0.
 static HEADERS: [Lie; 17] = [
     // no root
     &[(0, 1, 0)],
@@ -94,7 +95,8 @@ static HEADERS: [Lie; 17] = [
     &[(0, 7, 1)],
 ];
 
-// Changes of the image that are lies in version 1 alone. An entry is a line, a place in it and the word put there.
+// Changes of the image that are lies in version 1 alone. An entry is a line, a place in it and the word put there. Place 0 of line 0 is the version,
+// and place 6 the last revision. The nodes are in lines 1, 4, 7, 10 and 13, each with its revision at place 7.
 static FIRST_VERSION: [Lie; 7] = [
     // another version
     &[(0, 0, 2)],
@@ -119,7 +121,8 @@ static FIRST_VERSION: [Lie; 7] = [
     &[(0, 6, u64::MAX)],
 ];
 
-// Changes of the image that are lies in version 2 alone. An entry is a line, a place in it and the word put there.
+// Changes of the image that are lies in version 2 alone. An entry is a line, a place in it and the word put there. Place 0 of line 0 is the version,
+// and place 6 the last revision. The nodes are in lines 1, 4, 7, 10 and 13, each with its revision at place 7.
 static SECOND_VERSION: [Lie; 13] = [
     // another version
     &[(0, 0, 1)],
@@ -150,7 +153,8 @@ static SECOND_VERSION: [Lie; 13] = [
     ],
 ];
 
-// Changes of the image that are no lies in version 2. An entry is a line, a place in it and the word put there.
+// Changes of the image that are no lies in version 2. An entry is a line, a place in it and the word put there. Place 6 of line 0 is the last
+// revision. The nodes are in lines 1, 4, 7, 10 and 13, each with its revision at place 7.
 static REVISIONS: [Lie; 4] = [
     // revisions up to the last one given
     &[
@@ -169,7 +173,9 @@ static REVISIONS: [Lie; 4] = [
     &[(17, 7, 0), (18, 7, u64::MAX)],
 ];
 
-// Lies in the children and heights of nodes, of both versions. An entry is a line, a place in it and the word put there.
+// Lies in the children and heights of nodes, of both versions. An entry is a line, a place in it and the word put there. The nodes of a to e are in
+// lines 1, 4, 7, 10 and 13, each with its children at places 0 and 1 and its height at place 2. Line 0 has the root at place 1, the first line given
+// back at place 2, how many are given back at place 4, and how many pairs there are at place 5.
 static TREES: [Lie; 25] = [
     // a leaf of height 0
     &[(1, 2, 0)],
@@ -267,7 +273,8 @@ static TREES: [Lie; 25] = [
 ];
 
 // Lies in the order of keys, and in which lines are a key's or a document's, of both versions. An entry is a line, a place in it and the word put
-// there.
+// there. The nodes of a to e are in lines 1, 4, 7, 10 and 13, each with the line and the length of its key at places 3 and 4, and those of its
+// document at places 5 and 6. The key's line is the next one, with its first bytes at place 1.
 static PAIRS: [Lie; 12] = [
     // equal keys, of a node and its child
     &[(2, 1, 0x62)],
@@ -303,7 +310,9 @@ static PAIRS: [Lie; 12] = [
     &[(1, 5, 17)],
 ];
 
-// Lies in the bytes and lengths of keys and documents, of both versions. An entry is a line, a place in it and the word put there.
+// Lies in the bytes and lengths of keys and documents, of both versions. An entry is a line, a place in it and the word put there. A node, as in
+// lines 1 and 13, has the line and the length of its key at places 3 and 4, and those of its document at places 5 and 6. A line of bytes has the line
+// that it goes on in at place 0, and its bytes behind.
 static TEXTS: [Lie; 18] = [
     // an empty key
     &[(1, 3, 0), (1, 4, 0)],
@@ -343,7 +352,8 @@ static TEXTS: [Lie; 18] = [
     &[(1, 3, 0)],
 ];
 
-// Lies in the lines that are given back, of both versions. An entry is a line, a place in it and the word put there.
+// Lies in the lines that are given back, of both versions. An entry is a line, a place in it and the word put there. Line 0 has the first line given
+// back at place 2 and how many there are at place 4. Each of them, lines 17 and 18, has the next one at place 0.
 static GIVEN_BACK: [Lie; 8] = [
     // no given-back line
     &[(0, 2, 0)],

@@ -145,6 +145,7 @@ fn all_done(
     reply: u64,
 ) -> Result<bool, AllocError> {
     let puts = kind == PUT;
+    // no key is there before the puts, and each is before the removals
     let mut there = [!puts; 7];
     for at in order {
         if !done(alloc, store, image, &there, &on_key(kind, *at), reply)? {

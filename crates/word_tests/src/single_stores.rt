@@ -144,6 +144,7 @@ impl Smallest {
 fn level_by_level(alloc: Global) -> Result<Vec<Smallest>, AllocError> {
     let mut trees = Vec::new(alloc);
     trees.push(WHOLE)?;
+    // the two trees below each tree go to the end of the list; one of height 0 has no key
     for i in 0..4180 {
         let Some(tree) = trees.get(i).copied() else {
             break;
@@ -210,10 +211,13 @@ fn are_deep<M: Memory>(
     requires size { M.size mem.old.inner ≡ 8 * store.now.lines }
     requires writable { IsTrue (M.writable mem.old.inner) }
 {
+    // all keys but the last; their stores are not looked at
     grown(store, mem, root, others)?;
     counted(&mut mem.words, NO_STORES);
+    // the put of the last key
     asked(store, mem, &on_long_key(PUT, last, &LETTERS[..1024]))?;
     let put = counted(&mut mem.words, NO_STORES);
+    // the removal of the key at the root
     asked(store, mem, &on_long_key(DEL, root, b""))?;
     let taken = counted(&mut mem.words, NO_STORES);
     Ok(are_single(&put, 170) && are_single(&taken, 60))
