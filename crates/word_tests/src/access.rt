@@ -22,7 +22,7 @@ pub(crate) const DEL: u64 = 2;
 /// The kind of a get.
 const GET: u64 = 4;
 
-/// The n-th key of 16 bytes.
+/// The n-th key of 16 bytes: the letter k, and the last 15 decimal digits of `n`, with zeros before.
 pub(crate) fn key_of(n: u64) -> [u8; 16] {
     let mut key = *b"k000000000000000";
     let mut rest = n;
@@ -33,12 +33,13 @@ pub(crate) fn key_of(n: u64) -> [u8; 16] {
     key
 }
 
-/// The words of an operation on the n-th key of 16 bytes, with this document.
+/// The words of an operation of this kind on the n-th key of 16 bytes, with this document, or with none where it is empty.
 pub(crate) fn on_key(kind: u64, n: u64, document: &[u8]) -> [u64; 144] {
     laid_out(kind, &key_of(n), document, 0)
 }
 
-/// Puts keys in rising order, from one on to before another.
+/// Puts the keys of the numbers from `from` on to before `to`, in rising order, each with a document of 16 letters. The memory holds a lawful image
+/// before, and unless it halts also after.
 fn put_rising<M: Memory>(store: &DocStore, mem: &mut M, from: u64, to: u64) -> Result<(), Halt>
     requires size { M.size mem.old ≡ 8 * store.now.lines }
     requires writable { IsTrue (M.writable mem.old) }
@@ -53,7 +54,7 @@ fn put_rising<M: Memory>(store: &DocStore, mem: &mut M, from: u64, to: u64) -> R
     Ok(())
 }
 
-/// The most loads that a get of one of the first `keys` keys takes, after they are put in rising order.
+/// The most loads that a get of one of the first `keys` keys takes, after they are put in rising order into the empty store.
 fn most_loads<M: Memory>(store: &DocStore, mem: &mut Counting<M>, keys: u64) -> Result<u64, Halt>
     requires size { M.size mem.old.inner ≡ 8 * store.now.lines }
     requires writable { IsTrue (M.writable mem.old.inner) }
@@ -62,6 +63,7 @@ fn most_loads<M: Memory>(store: &DocStore, mem: &mut Counting<M>, keys: u64) -> 
     put_rising(store, mem, 0, keys)?;
     let mut most = 0;
     for n in 0..keys {
+        // the loads up to this get, which are taken off
         let before = mem.loads;
         asked(store, mem, &on_key(GET, n, b""))?;
         most = most.max(mem.loads.saturating_sub(before));
@@ -69,7 +71,8 @@ fn most_loads<M: Memory>(store: &DocStore, mem: &mut Counting<M>, keys: u64) -> 
     Ok(most)
 }
 
-/// The height of the root that the header of an image names.
+/// The height of the root that the header of an image names: word 1 of the header is the root's line, and word 2 of this line is the height. It is
+/// `None` where there are not words enough.
 fn height_in(words: &[u64]) -> Option<u64> {
     let root = *words.get(1)?;
     words
@@ -77,7 +80,7 @@ fn height_in(words: &[u64]) -> Option<u64> {
         .copied()
 }
 
-/// Whether each get among `keys` rising keys loads no more words than the limit.
+/// Whether each get among `keys` rising keys loads no more words than `limit`; `false` also where the memory halts.
 fn loads_few<M: Memory>(store: &DocStore, mem: &mut Counting<M>, keys: u64, limit: u64) -> bool
     requires size { M.size mem.old.inner ≡ 8 * store.now.lines }
     requires writable { IsTrue (M.writable mem.old.inner) }
@@ -96,7 +99,8 @@ pub(crate) fn has_height(mem: Counting<VecMemory>, height: u64) -> bool {
 #[test]
 fn a_get_among_1023_rising_keys_loads_few_words(rt: HostRuntime) -> Result<(), Fail> {
     let mut mem = counted_words(rt.alloc(), 4096)?;
-    // the root, 21 visits of a link, a key's place, its length and its two words, and as many for the document
+    // 1 load of the root's line; at each of at most 21 nodes 5 loads: a link, the line of the key, its length and its two words; and 4 loads of the
+    // document's line, its length and its two words
     holds(
         &rt,
         loads_few(&DocStore::of(4096), &mut mem, 1023, 1 + 5 * 21 + 4),
@@ -106,16 +110,18 @@ fn a_get_among_1023_rising_keys_loads_few_words(rt: HostRuntime) -> Result<(), F
     Ok(())
 }
 
-/// The keys that are put before, in rising order; the operation's kind, key and document; the most loads, the least and
-/// the most stores, and the most of both.
+/// A row: how many keys are put before, in rising order; the operation's kind, the number of its key, and its document; and four limits of its
+/// accesses: the most loads, the least stores, the most stores, and the most loads and stores together.
 type Limited = (u64, u64, u64, &'static [u8], [u64; 4]);
 
 /// What stands in a row for a number without a limit.
 const NO_LIMIT: u64 = u64::MAX;
 
-// Each operation visits at most 7, 14, 20 and 25 nodes: the greatest v with 2^v <= 2 * (n + 1)^2. A get loads at most
+// The columns: how many keys are put before, the operation's kind, its key, its document, and the limits: the most loads, the least stores, the most
+// stores, and the most of both. Each operation visits at most 7, 14, 20 and 25 nodes: the greatest v with 2^v <= 2 * (n + 1)^2. A get loads at most
 // 5 v + 10 words and stores none, and a change has at most 8 v + 64 accesses.
 static GROWING: [Limited; 20] = [
+    // over 10 keys: a new key is put
     (
         10,
         PUT,
@@ -123,6 +129,7 @@ static GROWING: [Limited; 20] = [
         b"xxxxxxxxxxxxxxxx",
         [NO_LIMIT, 0, NO_LIMIT, 120],
     ),
+    // one of the keys is removed, and put again
     (10, DEL, 5, b"", [NO_LIMIT, 0, NO_LIMIT, 120]),
     (
         10,
@@ -131,8 +138,10 @@ static GROWING: [Limited; 20] = [
         b"xxxxxxxxxxxxxxxx",
         [NO_LIMIT, 0, NO_LIMIT, 120],
     ),
+    // it is got, and the new key is removed
     (10, GET, 5, b"", [45, 0, 0, NO_LIMIT]),
     (10, DEL, 10, b"", [NO_LIMIT, 0, NO_LIMIT, 120]),
+    // over 100 keys: a new key is put
     (
         100,
         PUT,
@@ -140,6 +149,7 @@ static GROWING: [Limited; 20] = [
         b"xxxxxxxxxxxxxxxx",
         [NO_LIMIT, 0, NO_LIMIT, 176],
     ),
+    // one of the keys is removed, and put again
     (100, DEL, 50, b"", [NO_LIMIT, 0, NO_LIMIT, 176]),
     (
         100,
@@ -148,8 +158,10 @@ static GROWING: [Limited; 20] = [
         b"xxxxxxxxxxxxxxxx",
         [NO_LIMIT, 0, NO_LIMIT, 176],
     ),
+    // it is got, and the new key is removed
     (100, GET, 50, b"", [80, 0, 0, NO_LIMIT]),
     (100, DEL, 100, b"", [NO_LIMIT, 0, NO_LIMIT, 176]),
+    // over 1,000 keys: a new key is put
     (
         1000,
         PUT,
@@ -157,6 +169,7 @@ static GROWING: [Limited; 20] = [
         b"xxxxxxxxxxxxxxxx",
         [NO_LIMIT, 0, NO_LIMIT, 224],
     ),
+    // one of the keys is removed, and put again
     (1000, DEL, 500, b"", [NO_LIMIT, 0, NO_LIMIT, 224]),
     (
         1000,
@@ -165,8 +178,10 @@ static GROWING: [Limited; 20] = [
         b"xxxxxxxxxxxxxxxx",
         [NO_LIMIT, 0, NO_LIMIT, 224],
     ),
+    // it is got, and the new key is removed
     (1000, GET, 500, b"", [110, 0, 0, NO_LIMIT]),
     (1000, DEL, 1000, b"", [NO_LIMIT, 0, NO_LIMIT, 224]),
+    // over 5,000 keys: a new key is put
     (
         5000,
         PUT,
@@ -174,6 +189,7 @@ static GROWING: [Limited; 20] = [
         b"xxxxxxxxxxxxxxxx",
         [NO_LIMIT, 0, NO_LIMIT, 264],
     ),
+    // one of the keys is removed, and put again
     (5000, DEL, 2500, b"", [NO_LIMIT, 0, NO_LIMIT, 264]),
     (
         5000,
@@ -182,11 +198,13 @@ static GROWING: [Limited; 20] = [
         b"xxxxxxxxxxxxxxxx",
         [NO_LIMIT, 0, NO_LIMIT, 264],
     ),
+    // it is got, and the new key is removed
     (5000, GET, 2500, b"", [135, 0, 0, NO_LIMIT]),
     (5000, DEL, 5000, b"", [NO_LIMIT, 0, NO_LIMIT, 264]),
 ];
 
-// Puts over the document of one of five keys, one after the other. Each put stores its revision in two words.
+// Puts over the document of one of five keys, one after the other. Each put stores its revision in two words. The columns: how many keys are put
+// before, the operation's kind, its key, its document, and the limits: the most loads, the least stores, the most stores, and the most of both.
 static OVER: [Limited; 4] = [
     // 100 letters in place of 16
     (
@@ -222,7 +240,7 @@ static OVER: [Limited; 4] = [
     ),
 ];
 
-/// Whether counts are within limits.
+/// Whether an operation with this many loads and stores is within `limits`: the most loads, the least stores, the most stores, the most of both.
 fn are_within(loads: u64, stores: u64, limits: &[u64; 4]) -> bool {
     let [most_loads, least_stores, most_stores, most] = *limits;
     loads <= most_loads
@@ -231,7 +249,8 @@ fn are_within(loads: u64, stores: u64, limits: &[u64; 4]) -> bool {
         && loads.saturating_add(stores) <= most
 }
 
-/// Puts the keys that a row wants, from number `there` on, and returns whether its operation is within its limits.
+/// Puts the keys that a row wants, from number `there` on, and returns whether the accesses of its operation are within its limits. The memory holds
+/// a lawful image before, and unless it halts also after.
 fn is_limited<M: Memory>(
     store: &DocStore,
     mem: &mut Counting<M>,
@@ -247,6 +266,7 @@ fn is_limited<M: Memory>(
 {
     let (keys, kind, n, document, limits) = row;
     put_rising(store, mem, there, *keys)?;
+    // the counts before the operation
     let (loads, stores) = (mem.loads, mem.stores);
     asked(store, mem, &on_key(*kind, *n, document))?;
     Ok(are_within(
@@ -256,7 +276,7 @@ fn is_limited<M: Memory>(
     ))
 }
 
-/// Whether each row's operation is within its limits, from the empty store on.
+/// Whether each row's operation is within its limits, where the store is empty before the first row, and each row finds what those before it left.
 fn are_within_limits<M: Memory>(
     store: &DocStore,
     mem: &mut Counting<M>,
@@ -266,6 +286,7 @@ fn are_within_limits<M: Memory>(
     requires writable { IsTrue (M.writable mem.old.inner) }
 {
     opened(store, mem)?;
+    // how many keys were put for the rows before
     let mut there = 0;
     for row in rows {
         if !is_limited(store, mem, there, row)? {
@@ -276,7 +297,7 @@ fn are_within_limits<M: Memory>(
     Ok(true)
 }
 
-/// Whether each row's operation is within its limits, in `lines` lines.
+/// Whether each row's operation is within its limits, in a store of `lines` lines that is empty before; `false` also where the memory halts.
 fn are_limited(alloc: Global, lines: u64, rows: &[Limited]) -> Result<bool, AllocError>
     requires some { 1 ≤ lines }
     requires few { lines ≤ 2 ^ 14 }

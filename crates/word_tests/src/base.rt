@@ -14,12 +14,15 @@ use std::alloc::{AllocError, Global};
 
 #[test]
 fn codes_of_the_worked_row(rt: HostRuntime) {
+    // with 2 callers, the root code of place 7 and replica 3, and what it names
     holds(&rt, root_code(2, 7, 3) == 31);
     holds(&rt, root_place(2, 31) == 7);
     holds(&rt, root_replica(2, 31) == 3);
+    // with 2 callers, the link code of ticket 33 and cell 5, and what it names
     holds(&rt, link_code(2, 33, 5) == 1062);
     holds(&rt, link_ticket(2, 1062) == 33);
     holds(&rt, link_cell(2, 1062) == 5);
+    // the greatest root code, and the least link code
     holds(&rt, root_code(8, 1 << 40, 15) == 17592186044431);
     holds(&rt, link_code(1, 0, 0) == 1);
 }
@@ -42,7 +45,7 @@ fn opening(alloc: Global, left: Option<u64>) -> Result<Result<Vec<u64>, Halt>, A
     }
 }
 
-// Whether one step of Tally on an image is done, with `left` accesses allowed.
+// Whether the step `op` of Tally on an image is done, and does not halt, with `left` accesses allowed.
 fn is_stepped(words: Vec<u64>, left: u64, op: &[u64; 144]) -> bool
     requires { IsTally words.items }
 {
@@ -68,7 +71,7 @@ fn first_other_format(alloc: Global) -> Result<Option<u64>, AllocError> {
     Ok(None)
 }
 
-// Whether a step on the opening image is done with `left` accesses left.
+// Whether the step `op` on the opening image is done with `left` accesses allowed; `None` where that image is not made or not found lawful.
 fn is_done(alloc: Global, op: &[u64; 144], left: u64) -> Result<Option<bool>, AllocError> {
     let Ok(words) = opening(alloc, None)? else {
         return Ok(None);
@@ -79,7 +82,7 @@ fn is_done(alloc: Global, op: &[u64; 144], left: u64) -> Result<Option<bool>, Al
     Ok(Some(is_stepped(words, left, op)))
 }
 
-// The first limit below 4 under which a step that needs `needs` accesses halts where it should not, or does not where it should.
+// The first limit of accesses, below 4, at which the step `op` goes wrong: it has to halt below `needs`, and to succeed from there on.
 fn first_other_run(alloc: Global, op: &[u64; 144], needs: u64) -> Result<Option<u64>, AllocError> {
     for left in 0..4 {
         if is_done(alloc, op, left)? != Some(needs <= left) {
@@ -92,6 +95,7 @@ fn first_other_run(alloc: Global, op: &[u64; 144], needs: u64) -> Result<Option<
 #[test]
 fn tally_halts_at_each_step(rt: HostRuntime) {
     let alloc = rt.alloc();
+    // the opening image takes 512 stores
     all_hold(&rt, first_other_format(alloc));
     // an addition loads the sum and stores it
     all_hold(&rt, first_other_run(alloc, &words_of(3, 0), 2));
@@ -102,8 +106,11 @@ fn tally_halts_at_each_step(rt: HostRuntime) {
 // Whether a memory with notes counts the accesses of `format` and two loads, and refuses all behind them.
 fn counts_accesses(alloc: Global) -> Result<bool, AllocError> {
     let mut memory = Noted::of(alloc, zeros(alloc, 512)?, 514)?;
+    // the opening image takes 512 accesses
     let formatted = Tally.format(&mut memory) == Ok(()) && memory.accesses() == 512;
+    // its first and last words are 7 and 0; these two loads are the last accesses allowed
     let loaded = memory.load(0) == Ok(7) && memory.load(511) == Ok(0);
+    // each access after them is refused
     let refused = memory.load(0) == Err(Halt) && memory.store(0, 1) == Err(Halt);
     Ok(formatted && loaded && refused && memory.accesses() == 514)
 }

@@ -6,7 +6,7 @@ use crate::rows::memory;
 use cx_base::{Halt, Memory, VecMemory};
 use std::alloc::{AllocError, Global};
 
-/// The stores of a word since they were counted last, and what it was then and is now.
+/// How often a word was stored since the stores were counted last (`stores`), what it was then (`before`), and what it is (`now`).
 #[derive(Clone, Copy)]
 pub(crate) struct WordStores {
     pub(crate) stores: u64,
@@ -24,6 +24,7 @@ pub(crate) struct Counting<M: Memory> {
 }
 
 impl<M: Memory> Memory for Counting<M> {
+    // what proofs say of this memory, they say of the memory inside it
     ghost size = { λ c. M.size c.inner };
 
     ghost Fixed = { M.Fixed };

@@ -10,7 +10,7 @@ use cx_base::{Halt, Memory, Object};
 use std::alloc::{AllocError, Global};
 use std::test::Fail;
 
-// Makes the opening image of an object, which is lawful.
+// Makes the opening image of an object in a memory of as many words as the object has. The image is lawful, unless the memory halts.
 fn opened<O: Object, M: Memory>(object: &O, mem: &mut M) -> Result<(), Halt>
     requires size { M.size mem.old ≡ 8 * O.line_count object.now }
     requires writable { IsTrue (M.writable mem.old) }
@@ -21,7 +21,7 @@ fn opened<O: Object, M: Memory>(object: &O, mem: &mut M) -> Result<(), Halt>
     object.format(mem)
 }
 
-// Does a step of an object, which leaves a lawful image.
+// Does the step `op` of an object in a lawful image, and returns the words of the reply. The image is lawful after it, unless the memory halts.
 fn asked<O: Object, M: Memory>(object: &O, mem: &mut M, op: &[u64; 144]) -> Result<[u64; 144], Halt>
     requires size { M.size mem.old ≡ 8 * O.line_count object.now }
     requires writable { IsTrue (M.writable mem.old) }
@@ -33,7 +33,7 @@ fn asked<O: Object, M: Memory>(object: &O, mem: &mut M, op: &[u64; 144]) -> Resu
     object.run(mem, op)
 }
 
-// Whether a counter of the opening image is read after an addition, in 64 lines, whose counters stay below 11.
+// Whether counter 5 of the opening image is 9 after 9 is added to it, in 64 lines, whose counters stay below 11.
 fn are_answered(alloc: Global) -> Result<bool, AllocError> {
     let object = Counters::of(64, 11);
     let mut memory = memory(alloc, 64)?;

@@ -8,17 +8,21 @@ use std::alloc::{AllocError, Global};
 use std::test::Fail;
 use write_buffer::{Held, WriteBuffer, store_held};
 
-/// Stores twice to a word of line 0, and once to the last word of line 1, which is not held back.
+/// Stores twice to word 1, in line 0, and once to word 15, the last of line 1, which is not held back. It returns word 1 as the buffer shows it
+/// then. The memory has at least 16 words.
 fn stored_twice(mem: &mut VecMemory) -> Result<u64, Halt>
     requires { 16 ≤ length mem.old.words.items }
 {
     let mut held = Held::none();
     let mut buffer = WriteBuffer::over(mem, 0, &mut held);
+    // from this load on, word 1 is held back; word 15 is stored at once
     buffer.load(1)?;
     buffer.store(1, 7)?;
     buffer.store(15, 8)?;
     buffer.store(1, 9)?;
+    // the buffer shows the word that was stored last
     let seen = buffer.load(1)?;
+    // the buffer ends, and the words that it held back are stored
     let WriteBuffer { .. } = buffer;
     store_held(mem, &held)?;
     Ok(seen)

@@ -40,10 +40,12 @@ const IMAGE: [u64; 168] = [
     8, 7, 6, 5, 4, 3, 2, 1, // never given
 ];
 
-// What is changed of the image: words, each by its line and its place.
+// What is changed of the image: each entry is a line, a place in this line from 0 to 7, and the word that is put there. In line 0, the header, these
+// places are 0 version, 1 root, 2 first line given back, 3 end, 4 lines given back, 5 pairs, 6 last revision. In a node they are 0 and 1 children, 2
+// height, 3 and 4 the line and the length of the key, 5 and 6 those of the document, 7 revision.
 type Lie = &'static [(usize, usize, u64)];
 
-// What makes the image one of version 2: each pair has revision 1, which is the last one given.
+// What makes the image one of version 2: each pair has revision 1, which is the last one given. An entry is a line, a place in it and its word.
 const UPGRADE: Lie = &[
     (0, 0, 2),
     (0, 6, 1),
@@ -54,7 +56,8 @@ const UPGRADE: Lie = &[
     (13, 7, 1),
 ];
 
-// Lies in the header, of both versions.
+// Lies in the header, of both versions. An entry is a line, a place in it and the word put there. The header is line 0. Its places are 1 for the
+// root, 3 for the end, 5 for how many pairs there are, and 7, which has to be 0.
 static HEADERS: [Lie; 17] = [
     // no root
     &[(0, 1, 0)],
@@ -92,7 +95,8 @@ static HEADERS: [Lie; 17] = [
     &[(0, 7, 1)],
 ];
 
-// Changes of the image that are lies in version 1 alone.
+// Changes of the image that are lies in version 1 alone. An entry is a line, a place in it and the word put there. Place 0 of line 0 is the version,
+// and place 6 the last revision. The nodes are in lines 1, 4, 7, 10 and 13, each with its revision at place 7.
 static FIRST_VERSION: [Lie; 7] = [
     // another version
     &[(0, 0, 2)],
@@ -117,7 +121,8 @@ static FIRST_VERSION: [Lie; 7] = [
     &[(0, 6, u64::MAX)],
 ];
 
-// Changes of the image that are lies in version 2 alone.
+// Changes of the image that are lies in version 2 alone. An entry is a line, a place in it and the word put there. Place 0 of line 0 is the version,
+// and place 6 the last revision. The nodes are in lines 1, 4, 7, 10 and 13, each with its revision at place 7.
 static SECOND_VERSION: [Lie; 13] = [
     // another version
     &[(0, 0, 1)],
@@ -148,7 +153,8 @@ static SECOND_VERSION: [Lie; 13] = [
     ],
 ];
 
-// Changes of the image that are no lies in version 2.
+// Changes of the image that are no lies in version 2. An entry is a line, a place in it and the word put there. Place 6 of line 0 is the last
+// revision. The nodes are in lines 1, 4, 7, 10 and 13, each with its revision at place 7.
 static REVISIONS: [Lie; 4] = [
     // revisions up to the last one given
     &[
@@ -167,7 +173,9 @@ static REVISIONS: [Lie; 4] = [
     &[(17, 7, 0), (18, 7, u64::MAX)],
 ];
 
-// Lies in the children and heights of nodes, of both versions.
+// Lies in the children and heights of nodes, of both versions. An entry is a line, a place in it and the word put there. The nodes of a to e are in
+// lines 1, 4, 7, 10 and 13, each with its children at places 0 and 1 and its height at place 2. Line 0 has the root at place 1, the first line given
+// back at place 2, how many are given back at place 4, and how many pairs there are at place 5.
 static TREES: [Lie; 25] = [
     // a leaf of height 0
     &[(1, 2, 0)],
@@ -187,8 +195,10 @@ static TREES: [Lie; 25] = [
     &[(10, 2, 1), (4, 2, 2)],
     // a root two higher at the right
     &[
+        // the left child of b is gone, and 4 pairs are counted
         (4, 0, 0),
         (0, 5, 4),
+        // the three lines of the child are given back: the list of such lines begins with them
         (0, 2, 1),
         (1, 0, 2),
         (2, 0, 3),
@@ -197,6 +207,7 @@ static TREES: [Lie; 25] = [
     ],
     // a root two higher at the left
     &[
+        // d is the root, over b alone, which is over a and c: 4 pairs
         (0, 1, 10),
         (10, 0, 4),
         (10, 1, 0),
@@ -204,6 +215,7 @@ static TREES: [Lie; 25] = [
         (4, 1, 7),
         (4, 2, 2),
         (0, 5, 4),
+        // the four lines of e are given back: the list of such lines begins with them
         (0, 2, 13),
         (13, 0, 14),
         (14, 0, 15),
@@ -225,7 +237,9 @@ static TREES: [Lie; 25] = [
     &[(10, 0, 13)],
     // a shared child, and the lines of the other are given back
     &[
+        // e is the left child of d too
         (10, 0, 13),
+        // the three lines of c are given back
         (0, 2, 7),
         (7, 0, 8),
         (8, 0, 9),
@@ -238,6 +252,7 @@ static TREES: [Lie; 25] = [
     &[(7, 0, 1), (7, 2, 2), (10, 2, 3), (4, 2, 4), (0, 5, 6)],
     // a node is not reached
     &[
+        // b is over d alone, which has no child
         (4, 0, 0),
         (10, 0, 0),
         (10, 1, 0),
@@ -257,7 +272,9 @@ static TREES: [Lie; 25] = [
     &[(1, 0, 0x2000_0000_0000_0001)],
 ];
 
-// Lies in the order of keys, and in which lines are a key's or a document's, of both versions.
+// Lies in the order of keys, and in which lines are a key's or a document's, of both versions. An entry is a line, a place in it and the word put
+// there. The nodes of a to e are in lines 1, 4, 7, 10 and 13, each with the line and the length of its key at places 3 and 4, and those of its
+// document at places 5 and 6. The key's line is the next one, with its first bytes at place 1.
 static PAIRS: [Lie; 12] = [
     // equal keys, of a node and its child
     &[(2, 1, 0x62)],
@@ -273,6 +290,7 @@ static PAIRS: [Lie; 12] = [
     &[(8, 1, 0x41)],
     // a key out of order at the same distance from the other side
     &[
+        // d is the root, over b and e, and the key of c, at the right of b, is z
         (0, 1, 10),
         (10, 0, 4),
         (10, 2, 3),
@@ -292,7 +310,9 @@ static PAIRS: [Lie; 12] = [
     &[(1, 5, 17)],
 ];
 
-// Lies in the bytes and lengths of keys and documents, of both versions.
+// Lies in the bytes and lengths of keys and documents, of both versions. An entry is a line, a place in it and the word put there. A node, as in
+// lines 1 and 13, has the line and the length of its key at places 3 and 4, and those of its document at places 5 and 6. A line of bytes has the line
+// that it goes on in at place 0, and its bytes behind.
 static TEXTS: [Lie; 18] = [
     // an empty key
     &[(1, 3, 0), (1, 4, 0)],
@@ -332,7 +352,8 @@ static TEXTS: [Lie; 18] = [
     &[(1, 3, 0)],
 ];
 
-// Lies in the lines that are given back, of both versions.
+// Lies in the lines that are given back, of both versions. An entry is a line, a place in it and the word put there. Line 0 has the first line given
+// back at place 2 and how many there are at place 4. Each of them, lines 17 and 18, has the next one at place 0.
 static GIVEN_BACK: [Lie; 8] = [
     // no given-back line
     &[(0, 2, 0)],
@@ -352,7 +373,7 @@ static GIVEN_BACK: [Lie; 8] = [
     &[(18, 0, 19), (0, 4, 3)],
 ];
 
-// Changes of the image that are no lies, of both versions.
+// Changes of the image that are no lies, of both versions. An entry is a line, a place in it and the word put there.
 static TRUTHS: [Lie; 7] = [
     // nothing is changed
     &[],
@@ -381,7 +402,7 @@ fn tell(words: &mut [u64; 168], lie: Lie) -> bool {
     true
 }
 
-// The words of the image in a version, with a lie in them.
+// The words of the image in a version, with a lie in them; `None` where the lie names a line or a word that there is not.
 fn with_lie(version: u64, lie: Lie) -> Option<[u64; 168]> {
     let mut words = IMAGE;
     if version != 1 && !tell(&mut words, UPGRADE) {
@@ -393,7 +414,8 @@ fn with_lie(version: u64, lie: Lie) -> Option<[u64; 168]> {
     Some(words)
 }
 
-// Whether the first `count` words of the image in a version, with a lie in them, are lawful. All are 168.
+// Whether `lawful` finds the first `count` words of the image in a version, with a lie in them, lawful. The image has 168 words. The answer is `None`
+// where `count` is above that, or the lie names a word that there is not.
 fn is_lawful(
     alloc: Global,
     version: u64,
@@ -406,7 +428,7 @@ fn is_lawful(
     }
 }
 
-// The number of the first lie with which `lawful` does not return `truth` in a version.
+// The number of the first lie with which `lawful` does not return `truth` in a version; `None` where there is none.
 fn first_other_lie(
     alloc: Global,
     version: u64,
@@ -438,7 +460,7 @@ const COUNTS: [(usize, bool); 11] = [
     (168, true),
 ];
 
-// The number of the first row of which `lawful` does not return what the row says.
+// The number of the first row, a count of words and whether they are lawful, of which `lawful` does not say so; `None` where there is none.
 fn first_other_count(
     alloc: Global,
     version: u64,
@@ -452,7 +474,7 @@ fn first_other_count(
     Ok(None)
 }
 
-// Whether in a version each lie of both versions is found, and nothing that is no lie is taken for one.
+// Whether in a version each lie of both versions is found, and no image without a lie is refused.
 fn are_judged(alloc: Global, version: u64) -> Result<bool, AllocError> {
     Ok(
         first_other_lie(alloc, version, &HEADERS, false)?.is_none()
@@ -488,7 +510,8 @@ fn each_version_has_its_own_lies(rt: HostRuntime) -> Result<(), Fail> {
     Ok(())
 }
 
-// Numbers of versions that never were, and what gives the image this version, with the revisions of version 2 or, in the last row, of version 1.
+// A row: a version that never was, and the entries (a line, a place in it, and its word) that give the image this version. The revisions are those of
+// version 2 or, in the last row, of version 1.
 const NO_VERSION: [(u64, Lie); 4] = [
     (0, &[(0, 0, 0)]),
     (3, &[(0, 0, 3)]),
@@ -507,7 +530,7 @@ const NO_VERSION: [(u64, Lie); 4] = [
     ),
 ];
 
-// The number of the first row whose words are lawful in its version.
+// The number of the first row whose words `lawful` does not refuse in the version of the row; `None` where there is none.
 fn first_of_no_version(alloc: Global, rows: &[(u64, Lie)]) -> Result<Option<usize>, AllocError> {
     for (i, (version, lie)) in rows.iter().enumerate() {
         if is_lawful(alloc, *version, lie, 168)? != Some(false) {
@@ -523,7 +546,7 @@ fn there_is_no_other_version(rt: HostRuntime) -> Result<(), Fail> {
     Ok(())
 }
 
-// Whether words are lawful in version 1, and are upgraded to the words `wanted` of version 2.
+// Whether `words` are lawful in version 1, and are the words `wanted` of version 2 after the upgrade.
 fn becomes(alloc: Global, words: &mut [u64], wanted: &[u64]) -> Result<bool, AllocError> {
     if !lawful(alloc, words, 1)? {
         return Ok(false);
@@ -532,7 +555,7 @@ fn becomes(alloc: Global, words: &mut [u64], wanted: &[u64]) -> Result<bool, All
     Ok(&*words == wanted)
 }
 
-// The number of the first truth whose words of version 1 are not upgraded to its words of version 2.
+// The number of the first change in `truths` with which the words of version 1 are not upgraded to those of version 2; `None` where there is none.
 fn first_other_upgrade(alloc: Global, truths: &[Lie]) -> Result<Option<usize>, AllocError> {
     for (i, truth) in truths.iter().enumerate() {
         let (Some(mut words), Some(wanted)) = (with_lie(1, truth), with_lie(2, truth)) else {
@@ -570,7 +593,7 @@ const LISTED: [(&[u8], &[u8]); 5] = [
     (b"e", &[b'x'; 57]),
 ];
 
-// Whether the image in version 2, with a lie in it, is lawful and has these pairs, with these revisions.
+// Whether the image in version 2, with a lie in it, is lawful and has the pairs `rows`, each a key and its document, with these revisions.
 fn lists(
     alloc: Global,
     lie: Lie,
@@ -587,7 +610,7 @@ fn lists(
     Ok(pairs.len() == rows.len() && are_listed(&pairs, rows) && have_revisions(&pairs, revisions))
 }
 
-// Whether the first pairs are these.
+// Whether the pairs have the keys and documents of `rows`, in this order, as far as there are both.
 fn are_listed(pairs: &[Pair], rows: &[(&[u8], &[u8])]) -> bool {
     for (pair, (key, document)) in pairs.iter().zip(rows) {
         if pair.key.as_slice() != *key || pair.doc.as_slice() != *document {
@@ -597,7 +620,7 @@ fn are_listed(pairs: &[Pair], rows: &[(&[u8], &[u8])]) -> bool {
     true
 }
 
-// Whether the first pairs have these revisions.
+// Whether the pairs have these revisions, in this order, as far as there are both.
 fn have_revisions(pairs: &[Pair], revisions: &[u64]) -> bool {
     for (pair, revision) in pairs.iter().zip(revisions) {
         if pair.revision != *revision {
@@ -611,6 +634,7 @@ fn have_revisions(pairs: &[Pair], revisions: &[u64]) -> bool {
 #[test]
 fn pairs_are_listed_in_order(rt: HostRuntime) -> Result<(), Fail> {
     let alloc = rt.alloc();
+    // the image as it is, with its pairs in another tree, and with other revisions
     holds(&rt, lists(alloc, TRUTHS[0], &LISTED, &[1; 5])?);
     holds(&rt, lists(alloc, TRUTHS[6], &LISTED, &[1; 5])?);
     holds(&rt, lists(alloc, REVISIONS[0], &LISTED, &[9, 1, 3, 2, 5])?);

@@ -29,7 +29,7 @@ fn key_of(bytes: &[u8]) -> Key
     }
 }
 
-// Packs the bytes of a document into words, and returns how many bytes they are.
+// Packs the bytes of a document into `words`, and returns how many bytes they are.
 fn pack_document(bytes: &[u8], words: &mut [u64; 128]) -> u64
     requires { IsDocument bytes.now }
     ensures packed { IsPacked 128 result words.new }
@@ -40,7 +40,8 @@ fn pack_document(bytes: &[u8], words: &mut [u64; 128]) -> u64
     bytes.len() as u64
 }
 
-// Puts a document at a key of an index of 64 lines.
+// Puts a document at a key of an index of 64 lines. It returns whether the key was new, its document was replaced, or there was no room. `visits`
+// counts how often the key is compared with that of a node. The memory holds a lawful index before, and unless it halts also after.
 pub fn put<M: Memory, L: Ledger>(
     memory: &mut M,
     key: &[u8],
@@ -63,7 +64,8 @@ pub fn put<M: Memory, L: Ledger>(
     Ok(done)
 }
 
-// Puts a document of `len` bytes, each of which is `byte`, at a key.
+// Puts a document of `len` bytes, each of which is `byte`, at a key of an index of 64 lines, and returns how that ended. The memory holds a lawful
+// index before, and unless it halts also after.
 fn put_same<M: Memory, L: Ledger>(
     memory: &mut M,
     key: &[u8],
@@ -86,7 +88,7 @@ fn put_same<M: Memory, L: Ledger>(
     put(memory, key, &all[..len], visits)
 }
 
-// Makes the empty index.
+// Makes the empty index of 64 lines, whatever the words were. It is lawful, unless the memory halts.
 pub fn format<M: Memory>(memory: &mut M) -> Result<(), Halt>
     requires size { M.size memory.old ≡ 512 }
     requires writable { IsTrue (M.writable memory.old) }
@@ -98,7 +100,8 @@ pub fn format<M: Memory>(memory: &mut M) -> Result<(), Halt>
     Ok(())
 }
 
-// The first word of the document of a key, or `None` where the key is missing.
+// The first word of the document of a key, or `None` where the key is missing. The memory holds a lawful index before, and unless it halts also
+// after.
 fn read<M: Memory, L: Ledger>(
     memory: &mut M,
     key: &[u8],
@@ -128,7 +131,8 @@ enum Call {
     Read(Option<u64>),
 }
 
-// Calls in turn on the empty index, each with its key. In what is read, 51 and 53 are the digits 3 and 5.
+// Each row is a key and a call on it: a put, with the byte of its document, how often it stands there, and what is returned, or a read, with the
+// first word that it returns. They are made one after the other on the empty index. 51 to 54 are the digits 3 to 6.
 static CALLS: [(u8, Call); 12] = [
     // nothing is there
     (b'a', Call::Read(None)),
@@ -149,7 +153,8 @@ static CALLS: [(u8, Call); 12] = [
     (b'c', Call::Read(Some(53))),
 ];
 
-// Whether a call on a key returns what the call says.
+// Whether a call on a key returns what the call says. The key is one visible byte. The memory holds a lawful index before, and unless it halts also
+// after.
 fn is_answered<M: Memory, L: Ledger>(
     memory: &mut M,
     key: u8,
@@ -175,7 +180,8 @@ fn is_answered<M: Memory, L: Ledger>(
     }
 }
 
-// Makes the empty index and then the calls of rows, and returns the number of the first that does not return what it says.
+// Makes the empty index and then the calls of rows, each on its key, and returns the number of the first that does not return what it says; `None`
+// where all do.
 fn first_other_call<M: Memory, L: Ledger>(
     memory: &mut M,
     rows: &[(u8, Call)],
@@ -193,7 +199,8 @@ fn first_other_call<M: Memory, L: Ledger>(
     Ok(None)
 }
 
-// Makes `CALLS` on an index in a plain vector, and returns the number of the first that does not return what it says.
+// Makes `CALLS` on an index in a plain vector of 512 words, and returns the number of the first that does not return what it says; `None` where all
+// do. `blank` is opened as the count of visits of nodes.
 fn over_a_vector<L: Ledger>(words: Vec<u64>, blank: Blank) -> Result<Option<usize>, Halt>
     requires long { length words.items ≡ 512 }
     requires name { blank.name ≡ L.name }

@@ -16,6 +16,7 @@ const WORDS: usize = 8 * LINES + 3;
 fn second_differs() -> bool {
     let zeros = [0; 16];
     let mut other = zeros;
+    // word 9 is in line 1
     other[9] = 1;
     let mut out = [true, false];
     differing(&zeros, &other, &mut out);
@@ -44,6 +45,7 @@ fn are_apart() -> bool {
     let mut other = zeros;
     other[10] = 1;
     other[20] = 1;
+    // the words differ at 10 and at 20; 21 is the end
     first_apart(&zeros, &other, 0) == 10
         && first_apart(&other, &zeros, 10) == 10
         && first_apart(&zeros, &other, 11) == 20
@@ -68,7 +70,7 @@ fn worked_rows(rt: HostRuntime) {
     holds(&rt, are_apart());
 }
 
-// Numbers that look random.
+// A list of numbers, which look random and are the same for the same seed.
 fn scrambled(mut seed: u64) -> [u64; WORDS] {
     let mut words = [0; WORDS];
     for word in words.iter_mut() {
@@ -80,10 +82,11 @@ fn scrambled(mut seed: u64) -> [u64; WORDS] {
     words
 }
 
-// Whether the kernel marks the lines that differ as the plain program does, in `lines` lines, and no mark behind them.
+// Whether the kernel marks the lines in which `a` and `b` differ as the plain program does, among the first `lines` lines, and no mark behind them.
 fn differ_as_plain(a: &[u64; WORDS], b: &[u64; WORDS], lines: usize) -> bool
     requires { lines ≤ 40 }
 {
+    // the marks before: true or false, by the number of lines
     let is_even = lines % 2 == 0;
     let mut out = [is_even; LINES];
     let mut wanted = [is_even; LINES];
@@ -92,7 +95,7 @@ fn differ_as_plain(a: &[u64; WORDS], b: &[u64; WORDS], lines: usize) -> bool
     out == wanted
 }
 
-// The first number of lines in which the kernel and the plain program mark other lines as different.
+// The first number of lines in which the kernel and the plain program do not mark the same lines as different; `None` where there is none.
 fn first_other_differing(a: &[u64; WORDS], b: &[u64; WORDS]) -> Option<usize> {
     for lines in 0..LINES + 1 {
         if !differ_as_plain(a, b, lines) {
@@ -102,7 +105,8 @@ fn first_other_differing(a: &[u64; WORDS], b: &[u64; WORDS]) -> Option<usize> {
     None
 }
 
-// The first place of a word that is the only one to differ, which the kernel and the plain program do not mark in the same way.
+// The first place of a word for which this is so: two lists differ in one bit of this word alone, and the kernel and the plain program do not mark
+// the same lines. It is `None` where there is no such place.
 fn first_other_place() -> Option<usize> {
     let words = scrambled(1);
     for at in 0..WORDS {
@@ -123,7 +127,7 @@ fn words_that_differ(rt: HostRuntime) {
     holds(&rt, first_other_place().is_none());
 }
 
-// Whether the kernel marks the lines of addresses as the plain program does.
+// Whether the kernel marks the lines of addresses as the plain program does. Each address is of a word in `lines` lines.
 fn touch_as_plain(addresses: &[u64], lines: usize) -> bool
     requires few { lines ≤ 40 }
     requires within { All (λ address. address < 8 * lines) addresses.now }
@@ -147,7 +151,7 @@ fn first_other_address() -> Option<usize> {
     None
 }
 
-// A list of 26 times the same address.
+// A list of 26 times the same address, which is of a word in `lines` lines.
 fn repeated(address: u64, lines: usize) -> [u64; 26]
     requires { address < 8 * lines }
     ensures { All (λ address. address < 8 * lines) result }
@@ -168,7 +172,7 @@ fn first_other_repeated() -> Option<usize> {
     None
 }
 
-// Addresses of words in `lines` lines, which look random.
+// Addresses of words in `lines` lines, which look random and are the same for the same seed.
 fn scattered(seed: u64, lines: usize) -> [u64; WORDS]
     requires few { lines ≤ 40 }
     requires some { 0 < lines }

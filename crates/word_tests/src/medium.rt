@@ -81,7 +81,8 @@ fn worked_rows(rt: HostRuntime) {
     holds_with_memory(&rt, stays_at_its_end(rt.alloc()));
 }
 
-// A word of the plain list: its value, its durable value, and when it was last stored to and last made durable.
+// A word of the plain list: its value, its durable value, when it was last stored to (`stored`), and when it was last made durable (`settled`). A
+// time is the number of a call, from 1 on, and 0 is before all calls. The word is dirty where it was stored to after it was last made durable.
 #[derive(Clone, Copy)]
 struct Timed {
     value: u64,
@@ -98,7 +99,7 @@ const FRESH: Timed = Timed {
     settled: 0,
 };
 
-// The plain list, with the last write-back of each line and how often it was stored to.
+// The plain list: its words, when each line was last written back (`backs`), and how often each line was stored to (`stores`).
 #[derive(Drop)]
 struct Plain {
     words: [Timed; 64],
@@ -112,7 +113,7 @@ fn scrambled(seed: u64) -> u64 {
         .wrapping_add(1442695040888963407)
 }
 
-// Makes durable each word of the plain list whose line was written back since the word was stored to.
+// Makes durable, at this time, each dirty word of the plain list whose line was written back after the word was last stored to.
 fn settle(plain: &mut Plain, time: u64) {
     for (i, word) in plain.words.iter_mut().enumerate() {
         if word.stored > word.settled && plain.backs[i / 8] > word.stored {
@@ -122,7 +123,8 @@ fn settle(plain: &mut Plain, time: u64) {
     }
 }
 
-// Stores, writes back or fences, in the medium and in the plain list, as a number says.
+// Stores, writes back or fences, in the medium and in the plain list, as `number` says: parts of it choose the kind of call and the word or the line.
+// A store puts `number` itself. `time` is the number of the call. The medium has 8 lines.
 fn call(medium: &mut Medium, plain: &mut Plain, time: u64, number: u64)
     requires words { length medium.old.words ≡ 64 }
     requires stores { length medium.old.stores ≡ 8 }
@@ -132,14 +134,17 @@ fn call(medium: &mut Medium, plain: &mut Plain, time: u64, number: u64)
     let at = number / 65536 % 64;
     let line = number / 65536 % 8;
     match number / 256 % 8 {
+        // a fence, one time in eight
         0 => {
             medium.fence();
             settle(plain, time);
         }
+        // a write-back of a line
         1 | 2 => {
             medium.write_back(line);
             plain.backs[line as usize] = time;
         }
+        // a store to a word
         _ => {
             medium.store(at, number);
             plain.words[at as usize].value = number;
@@ -150,7 +155,8 @@ fn call(medium: &mut Medium, plain: &mut Plain, time: u64, number: u64)
     }
 }
 
-// What a loss of power leaves of a word of the plain list by a choice. The place is counted from 1.
+// What a crash leaves of a word of the plain list by a choice. `place` is the number of the word, counted from 1. A word that is not dirty is left as
+// it is. A dirty one is its durable value, its present one, or the product of the choice and the place.
 fn word_left(word: &Timed, choice: u64, place: u64) -> u64 {
     if word.stored <= word.settled {
         return word.value;

@@ -19,17 +19,19 @@ const DIGITS: [u8; 10] = *b"0123456789";
 /// removal (2), a get (4), the next key (5), the count (6) and a revision (8).
 const KINDS: [u64; 14] = [1, 1, 1, 1, 2, 3, 3, 4, 5, 6, 7, 7, 7, 8];
 
-/// Numbers that look random.
+/// Numbers that look random, each made of the one before.
 #[derive(Drop)]
 pub(crate) struct Numbers {
     state: u64,
 }
 
 impl Numbers {
+    /// The numbers that follow from this state, the same each time.
     pub(crate) fn of(state: u64) -> Numbers {
         Numbers { state }
     }
 
+    /// The next number, which is below `below`.
     fn next(&mut self, below: u64) -> u64
         requires { 0 < below }
         ensures { result < below }
@@ -50,11 +52,13 @@ pub(crate) fn digit(n: u64) -> u8 {
 /// The words of a command on one of 500 keys: a number, or up to 150 letters, is what is put. Half of what is put on condition of a
 /// revision is put on condition that the key is missing.
 pub(crate) fn command(numbers: &mut Numbers) -> [u64; 144] {
+    // what may be used: the kind, one of 500 keys, a number of two digits, and a length below 150
     let kind = KINDS[numbers.next(14) as usize];
     let n = numbers.next(500);
     let key = [b'k', digit(n / 100), digit(n / 10), digit(n)];
     let number = [digit(numbers.next(9) + 1), digit(numbers.next(10))];
     let long = numbers.next(150) as usize;
+    // most puts have letters as their document, and the others the number; half of the puts on condition are of revision 0, of a missing key
     match kind {
         1 if long < 30 => laid_out(1, &key, &number, 0),
         1 => laid_out(1, &key, &LETTERS[..long], 0),
@@ -83,7 +87,7 @@ fn same_pairs(ones: &[Pair], others: &[Pair]) -> bool {
     ones.len() == others.len()
 }
 
-/// Whether words are those of a reply.
+/// Whether `words` are those of the reply `want`.
 fn is_reply(alloc: Global, words: &[u64; 144], want: &Reply) -> Result<bool, AllocError> {
     match reply_of(alloc, words) {
         Ok(reply) => Ok(same_reply(&reply, want)),
@@ -92,7 +96,8 @@ fn is_reply(alloc: Global, words: &[u64; 144], want: &Reply) -> Result<bool, All
     }
 }
 
-/// Whether the plain program's reply to a command's words is this one.
+/// Whether the plain program, with its list of pairs, gives `reply` to the command with these words in `lines` lines. The list is afterwards as the
+/// command leaves it.
 fn is_meant(
     alloc: Global,
     pairs: &mut Pairs,
@@ -106,7 +111,8 @@ fn is_meant(
     }
 }
 
-/// Does one command in the store and in the plain program, and returns whether they give the same reply.
+/// Does the command with these words in the store and in the plain program, and returns whether they give the same reply; `false` also where the
+/// memory halts. The memory holds a lawful image before, and where the answer is `true` also after.
 fn both<M: Memory>(
     alloc: Global,
     store: &DocStore,
@@ -127,7 +133,8 @@ fn both<M: Memory>(
     }
 }
 
-/// Whether the store and the plain program, both empty before, give the same replies to `commands` commands.
+/// Whether the store and the plain program give the same replies to `commands` commands that look random. The store is made empty before; `pairs` are
+/// those of the plain program.
 fn are_same<M: Memory>(
     alloc: Global,
     store: &DocStore,
@@ -150,7 +157,7 @@ fn are_same<M: Memory>(
     Ok(true)
 }
 
-/// Whether words are a lawful image of these pairs.
+/// Whether `words` are a lawful image of exactly these pairs, in this order.
 fn are_listed(
     alloc: Global,
     store: &DocStore,
@@ -178,7 +185,7 @@ fn twenty_thousand_commands_as_in_the_list(rt: HostRuntime) -> Result<(), Fail> 
     Ok(())
 }
 
-/// Whether a command is done in an image that is lawful, with `left` accesses left.
+/// Whether the command `op` is done in an image with `left` accesses allowed, and the image is lawful before.
 fn is_done(
     alloc: Global,
     store: &DocStore,
@@ -208,7 +215,7 @@ pub(crate) fn accesses(
     Ok(0)
 }
 
-/// Whether a put takes more than 20 accesses in an image, and words of no operation none.
+/// Whether a put takes more than 20 accesses in an image, and words of no operation (a put on condition without a key) none.
 fn are_refused(alloc: Global, store: &DocStore, image: &[u64]) -> Result<bool, AllocError> {
     let put = accesses(alloc, store, image, &words_of((1, "new", "1", 0)))?;
     let no_operation = accesses(alloc, store, image, &words_of((7, "", "", 0)))?;

@@ -6,7 +6,8 @@ ghost use Rattle.cx_base.specs.Noted.{NotesShow, IsShownByNotes, some_shown, sho
 use cx_base::{Halt, Memory};
 use std::alloc::{AllocError, Global};
 
-/// A memory with room for a number of notes, one for each access. `stands` is read off the notes alone.
+/// A memory with room for a number of notes, one for each access: whether it is a store, the place of the word, and the word. `stands` is read off
+/// the notes alone.
 #[derive(Drop)]
 pub struct Noted {
     words: Vec<u64>,
@@ -55,6 +56,7 @@ impl Memory for Noted {
         if self.notes.len() == self.room {
             return Err(Halt);
         }
+        // a load is noted with the word that it gives
         let v = self.words[at as usize];
         note(&mut self.notes, (false, at, v));
         Ok(v)
@@ -64,13 +66,14 @@ impl Memory for Noted {
         if self.notes.len() == self.room {
             return Err(Halt);
         }
+        // a store is noted with the word that it puts
         note(&mut self.notes, (true, at, v));
         self.words[at as usize] = v;
         Ok(())
     }
 }
 
-/// Appends a note where there is room for it.
+/// Appends a note at the end of the notes, which have room for one more. They are as before, with this note behind them.
 fn note(notes: &mut Vec<(bool, u64, u64)>, note: (bool, u64, u64))
     requires { vec_len notes.old < vec_capacity notes.old }
     ensures items { notes.new.items ≡ notes.old.items ++ note ∷ [] }

@@ -13,10 +13,11 @@ use std::test::Fail;
 /// The kind, the key, the document and the amount of an operation. Kind 0 is of words that are no operation's.
 type Parts<'a> = (u64, &'a [u8], &'a [u8], i64);
 
-/// The parts of words, the words that are then changed, by their places, and the parts of the operation that the words are then.
+/// A row has three parts: the kind, the key, the document and the number that words are made of; places in them, each with the word that is then put
+/// there; and the kind, the key, the document and the amount of the operation that the words are read as.
 type Changed = (Row, &'static [(usize, u64)], Parts<'static>);
 
-/// The kind of an operation's words.
+/// The kind of an operation, which is word 0 of its words.
 fn kind_of(op: &Op) -> u64 {
     match op {
         Op::Put { .. } => 1,
@@ -53,7 +54,7 @@ fn document_of(op: &Op) -> &[u8] {
     }
 }
 
-/// The amount that an operation has, or the revision as one, or 0.
+/// The amount of an addition, the revision of a put on condition (in two's complement), or 0.
 fn amount_of(op: &Op) -> i64 {
     match op {
         Op::Add { amount, .. } => *amount,
@@ -62,7 +63,7 @@ fn amount_of(op: &Op) -> i64 {
     }
 }
 
-/// Whether an operation has these parts.
+/// Whether an operation has the parts `want`: the kind, the key, the document and the amount.
 fn has_parts(op: &Op, want: &Parts<'_>) -> bool {
     kind_of(op) == want.0
         && key_of(op) == want.1
@@ -70,7 +71,8 @@ fn has_parts(op: &Op, want: &Parts<'_>) -> bool {
         && amount_of(op) == want.3
 }
 
-/// Whether words are read as an operation of these parts, and are the words of this operation again; with kind 0, whether they are no operation's.
+/// Whether words are read as an operation of the parts `want`, and are the words of this operation again. Where `want` has kind 0, whether they
+/// are no operation's.
 fn is_read(alloc: Global, words: &[u64; 144], want: &Parts<'_>) -> Result<bool, AllocError> {
     match op_of(alloc, words) {
         Ok(op) => Ok(is_op(words) && op_words(&op) == *words && has_parts(&op, want)),
@@ -79,12 +81,16 @@ fn is_read(alloc: Global, words: &[u64; 144], want: &Parts<'_>) -> Result<bool, 
     }
 }
 
-// Words, some of them changed, and the operation that they are then. Kind 0 is of words that are no operation's.
+// The columns: the kind, key, document and number that words are made of; the words changed then, each by its place; and the kind, key, document and
+// amount of the operation that they are then. Kind 1 is a put, 2 a removal, 3 an addition, 4 a get, 5 the next key, 6 the count, 7 a put on
+// condition of a revision, 8 a revision. Kind 0 is of words that are no operation's.
 static OPERATIONS: [Changed; 52] = [
-    // operations of each kind
+    // puts; the second key has the least and the greatest byte that a key may have
     ((1, "a", " ", 0), &[], (1, b"a", b" ", 0)),
     ((1, "!~", "\u{FF}", 0), &[], (1, b"!~", b"\xC3\xBF", 0)),
+    // a removal
     ((2, "a", "", 0), &[], (2, b"a", b"", 0)),
+    // additions of 0, of the least amount and of the greatest
     ((3, "a", "", 0), &[], (3, b"a", b"", 0)),
     (
         (3, "a", "", 9223372036854775808),
@@ -96,64 +102,77 @@ static OPERATIONS: [Changed; 52] = [
         &[],
         (3, b"a", b"", 9223372036854775807),
     ),
+    // gets, of a key in one word and of one in two words
     ((4, "a", "", 0), &[], (4, b"a", b"", 0)),
     ((4, "abcdefghi", "", 0), &[], (4, b"abcdefghi", b"", 0)),
+    // the next key, above none and above a
     ((5, "", "", 0), &[], (5, b"", b"", 0)),
     ((5, "a", "", 0), &[], (5, b"a", b"", 0)),
+    // the count
     ((6, "", "", 0), &[], (6, b"", b"", 0)),
+    // puts on condition: the key is missing (0), and the greatest revision, which is -1 as an amount
     ((7, "a", "1", 0), &[], (7, b"a", b"1", 0)),
     (
         (7, "a", "1", 18446744073709551615),
         &[],
         (7, b"a", b"1", -1),
     ),
+    // a revision
     ((8, "a", "", 0), &[], (8, b"a", b"", 0)),
-    // other kinds than a put have no more than they use
+    // no operations: a part that the kind needs is missing or is no key, or there is one that it does not use
+    // a put on condition (7) without a document, and without a key
     ((7, "a", "", 1), &[], (0, b"", b"", 0)),
     ((7, "", "1", 1), &[], (0, b"", b"", 0)),
+    // a revision (8) without a key, with a document, and with a number
     ((8, "", "", 0), &[], (0, b"", b"", 0)),
     ((8, "a", "1", 0), &[], (0, b"", b"", 0)),
     ((8, "a", "", 1), &[], (0, b"", b"", 0)),
+    // a removal (2) with a document, and with a number; an addition (3) with a document
     ((2, "a", "1", 0), &[], (0, b"", b"", 0)),
     ((2, "a", "", 1), &[], (0, b"", b"", 0)),
     ((3, "a", "1", 5), &[], (0, b"", b"", 0)),
+    // a get (4) without a key; the next key (5) with a number, and above a key with a space
     ((4, "", "", 0), &[], (0, b"", b"", 0)),
     ((5, "a", "", 1), &[], (0, b"", b"", 0)),
     ((5, "a b", "", 0), &[], (0, b"", b"", 0)),
+    // a count (6) with a key, and with a number
     ((6, "a", "", 0), &[], (0, b"", b"", 0)),
     ((6, "", "", 1), &[], (0, b"", b"", 0)),
-    // words by themselves
+    // from words that are all 0, a put of document 1 at key a
     (
         (0, "", "", 0),
         &[(0, 1), (1, 1), (2, 1), (8, 97), (16, 49)],
         (1, b"a", b"1", 0),
     ),
+    // from words that are all 0, an addition of -1 at key a
     (
         (0, "", "", 0),
         &[(0, 3), (1, 1), (3, 18446744073709551615), (8, 97)],
         (3, b"a", b"", -1),
     ),
+    // words that are all 0: no operation
     ((0, "", "", 0), &[], (0, b"", b"", 0)),
-    // words of a put, some of them changed
-    // the kind
+    // words of a put, some of them changed, which are no operation's (0) then
+    // the kind: 0, one that there is not, and a removal, which has no document
     ((1, "a", "1", 0), &[(0, 0)], (0, b"", b"", 0)),
     ((1, "a", "1", 0), &[(0, 9)], (0, b"", b"", 0)),
     ((1, "a", "1", 0), &[(0, 2)], (0, b"", b"", 0)),
-    // the length of the key
+    // the length of the key: 0, with its byte and without it; 2, whose second byte is 0; and one above 64
     ((1, "a", "1", 0), &[(1, 0)], (0, b"", b"", 0)),
     ((1, "a", "1", 0), &[(1, 0), (8, 0)], (0, b"", b"", 0)),
     ((1, "a", "1", 0), &[(1, 2)], (0, b"", b"", 0)),
     ((1, "a", "1", 0), &[(1, 65)], (0, b"", b"", 0)),
+    // the greatest number as the length of the key
     (
         (1, "a", "1", 0),
         &[(1, 18446744073709551615), (3, 0)],
         (0, b"", b"", 0),
     ),
-    // the length of the document
+    // the length of the document: 0, without its byte; 2, whose second byte is 0; and one above 1,024
     ((1, "a", "1", 0), &[(2, 0), (16, 0)], (0, b"", b"", 0)),
     ((1, "a", "1", 0), &[(2, 2)], (0, b"", b"", 0)),
     ((1, "a", "1", 0), &[(2, 1025)], (0, b"", b"", 0)),
-    // words that a put does not use
+    // words that a put does not use: 3, 4 and 7
     ((1, "a", "1", 0), &[(3, 1)], (0, b"", b"", 0)),
     ((1, "a", "1", 0), &[(4, 1)], (0, b"", b"", 0)),
     ((1, "a", "1", 0), &[(7, 1)], (0, b"", b"", 0)),
@@ -161,6 +180,7 @@ static OPERATIONS: [Changed; 52] = [
     ((1, "a", "1", 0), &[(8, 353)], (0, b"", b"", 0)),
     ((1, "a", "1", 0), &[(8, 32)], (0, b"", b"", 0)),
     ((1, "a", "1", 0), &[(8, 127)], (0, b"", b"", 0)),
+    // word 15 is the last one for a key
     ((1, "a", "1", 0), &[(15, 1)], (0, b"", b"", 0)),
     // the document: a control character, and a word behind its end
     ((1, "a", "1", 0), &[(16, 31)], (0, b"", b"", 0)),
@@ -170,7 +190,7 @@ static OPERATIONS: [Changed; 52] = [
     ((1, "a", "1", 0), &[(1, 2), (8, 25185)], (1, b"ab", b"1", 0)),
 ];
 
-/// Words of which some are changed, by their places.
+/// These words after `changes`: each is a place and the word put there. A place behind the words is passed over.
 fn changed(words: [u64; 144], changes: &[(usize, u64)]) -> [u64; 144] {
     let mut words = words;
     for (at, word) in changes {
@@ -181,7 +201,7 @@ fn changed(words: [u64; 144], changes: &[(usize, u64)]) -> [u64; 144] {
     words
 }
 
-/// The number of the first row whose words are not read as the row says.
+/// The number of the first row whose words, after its changes, are not read as the row says; `None` where all rows are right.
 fn first_other(alloc: Global, rows: &[Changed]) -> Result<Option<usize>, AllocError> {
     for (i, (row, changes, want)) in rows.iter().enumerate() {
         if !is_read(alloc, &changed(words_of(*row), changes), want)? {
@@ -191,20 +211,23 @@ fn first_other(alloc: Global, rows: &[Changed]) -> Result<Option<usize>, AllocEr
     Ok(None)
 }
 
-// The lengths of a key and of a document, and whether a put may have them.
+// The length of a key, the length of a document, and whether a put may have them.
 static LENGTHS: [(usize, usize, bool); 9] = [
+    // the least and the greatest lengths, a key that fills a word, and documents of 56 and 57 bytes, in one line and in two
     (1, 1, true),
     (7, 56, true),
     (8, 57, true),
     (64, 1024, true),
     (1, 1024, true),
+    // one byte too long, and none at all
     (65, 1, false),
     (64, 1025, false),
     (0, 1, false),
     (1, 0, false),
 ];
 
-/// The number of the first row of lengths of which a put's words are not read as the row says.
+/// The number of the first row of lengths of which a put's words are not read as the row says; `None` where all rows are right. The keys and
+/// documents are of the letter x.
 fn first_other_length(
     alloc: Global,
     rows: &[(usize, usize, bool)],
@@ -228,34 +251,45 @@ fn words_are_read_as_operations(rt: HostRuntime) -> Result<(), Fail> {
     Ok(())
 }
 
-// The parts of words, whether a reply has them, and the sum of this reply or 0.
+// The kind, key, document and number that words are made of; whether a reply has these words; and its sum, or 0 where it is no sum. Kind 1 is new, 2
+// replaced, 3 deleted, 4 absent, 5 a document, 6 a sum, 7 no number, 8 an overflow, 9 no room, 10 a key, 11 a number, 12 set, 13 stale, 14 a
+// revision.
 static REPLIES: [(Row, bool, i64); 29] = [
+    // replies without a part: new, replaced, deleted, absent
     ((1, "", "", 0), true, 0),
     ((2, "", "", 0), true, 0),
     ((3, "", "", 0), true, 0),
     ((4, "", "", 0), true, 0),
+    // a document, and sums of 7 and of -2
     ((5, "", "1", 0), true, 0),
     ((6, "", "", 7), true, 7),
     ((6, "", "", 18446744073709551614), true, -2),
+    // no number, overflow and no room
     ((7, "", "", 0), true, 0),
     ((8, "", "", 0), true, 0),
     ((9, "", "", 0), true, 0),
+    // a key, and numbers: 0 and the greatest
     ((10, "abcdefgh", "", 0), true, 0),
     ((11, "", "", 0), true, 0),
     ((11, "", "", 18446744073709551615), true, 0),
+    // kind 0 is no reply's
     ((0, "", "", 0), false, 0),
+    // set, stale and revision, each with a revision
     ((12, "", "", 7), true, 0),
     ((13, "", "", 0), true, 0),
     ((14, "", "", 18446744073709551615), true, 0),
+    // kind 15 is no reply's
     ((15, "", "", 0), false, 0),
     // parts that a reply of this kind does not have, or that it misses
     ((12, "a", "", 7), false, 0),
     ((13, "", "1", 7), false, 0),
     ((14, "a", "", 7), false, 0),
+    // a new key with a number, an absent one with a key, a document that is empty or has a control character
     ((1, "", "", 1), false, 0),
     ((4, "a", "", 0), false, 0),
     ((5, "", "", 0), false, 0),
     ((5, "", "\x1F", 0), false, 0),
+    // a sum with a key, no room with a document, no key where it has to be one, and a number with a document
     ((6, "a", "", 1), false, 0),
     ((9, "", "1", 0), false, 0),
     ((10, "", "", 0), false, 0),
@@ -270,7 +304,8 @@ fn sum_of(reply: &Reply) -> i64 {
     }
 }
 
-/// Whether a row's words are read as a reply of its parts, and are the words of this reply again, or are no reply's where the row says so.
+/// Whether the words of a row (its parts, whether they are a reply's, the sum) are read as a reply of these parts, and are the words of this reply
+/// again; or, where the row says so, whether they are no reply's.
 fn is_reply_read(alloc: Global, row: &(Row, bool, i64)) -> Result<bool, AllocError> {
     let words = words_of(row.0);
     match reply_of(alloc, &words) {
@@ -285,7 +320,7 @@ fn is_reply_read(alloc: Global, row: &(Row, bool, i64)) -> Result<bool, AllocErr
     }
 }
 
-/// The number of the first row whose words are not read as the reply that it says.
+/// The number of the first row whose words are not read as the reply that it says; `None` where all rows are right.
 fn first_other_reply(
     alloc: Global,
     rows: &[(Row, bool, i64)],
@@ -298,7 +333,8 @@ fn first_other_reply(
     Ok(None)
 }
 
-/// Whether the packed replies of a key and of a document have these words, and 0 in all others.
+/// Whether the words of the reply of the key `key` are 0 but for `key_words`, and those of the reply of the document `document!` are 0 but for
+/// `document_words`. Each of these is a place and its word.
 fn are_packed(key_words: &[(usize, u64)], document_words: &[(usize, u64)]) -> bool {
     let mut key = [0; 8];
     pack(b"key", &mut key);

@@ -43,12 +43,14 @@ fn take_out(rest: &mut [usize; 7], at: usize) {
     }
 }
 
-/// The n-th of the 5,040 orders of seven numbers.
+/// The n-th of the 5,040 orders of the numbers 0 to 6, counted from 0.
 fn order_of(n: u64) -> [usize; 7] {
+    // the numbers that have no place yet, in rising order
     let mut rest = RISING;
     let mut order = [0; 7];
     let mut n = n;
     for i in 0..7 {
+        // how many numbers are left: what remains of n chooses one of them
         let choices = 7 - i as u64;
         let at = (n % choices) as usize;
         n /= choices;
@@ -58,7 +60,7 @@ fn order_of(n: u64) -> [usize; 7] {
     order
 }
 
-/// Whether a pair is of this key, with itself as its document.
+/// Whether there is a pair, and it is of this key, which is also its document.
 fn is_pair(pair: Option<&Pair>, key: &[u8]) -> bool {
     match pair {
         Some(pair) => pair.key.as_slice() == key && pair.doc.as_slice() == key,
@@ -66,8 +68,10 @@ fn is_pair(pair: Option<&Pair>, key: &[u8]) -> bool {
     }
 }
 
-/// Whether pairs are those of the keys that are there, in rising order, each with itself as its document.
+/// Whether pairs are exactly those of the keys that are there, in rising order, each with the key as its document. Of key number i, `there` says at
+/// place i whether it is there.
 fn are_pairs(pairs: &[Pair], there: &[bool; 7]) -> bool {
+    // how many pairs have been found to be right
     let mut found = 0usize;
     for (key, there) in KEYS.iter().zip(there) {
         if *there {
@@ -80,7 +84,7 @@ fn are_pairs(pairs: &[Pair], there: &[bool; 7]) -> bool {
     found == pairs.len()
 }
 
-/// Whether an image is lawful and holds exactly the keys that are there.
+/// Whether an image is lawful and holds exactly the keys of which `there` says so.
 fn holds_keys(
     alloc: Global,
     store: &DocStore,
@@ -95,8 +99,8 @@ fn holds_keys(
     Ok(are_pairs(&documents(alloc, image)?, there))
 }
 
-/// Does a command in an image. It returns `false` where the image before is not lawful or does not hold exactly the keys that are there, or the
-/// reply is of another kind.
+/// Does the command `op` in an image. It returns `false` where the image before is not lawful or does not hold exactly the keys of which `there` says
+/// so, or the reply is not of kind `reply`.
 fn done(
     alloc: Global,
     store: &DocStore,
@@ -124,13 +128,14 @@ fn copied(words: &[u64], image: &mut [u64; 512]) -> bool {
     true
 }
 
-/// The words of a command of this kind on a key, which is put with itself as its document.
+/// The words of a command of this kind on key number `at`, which is put with itself as its document.
 fn on_key(kind: u64, at: usize) -> [u64; 144] {
     let key = KEYS[at % 7].as_bytes();
     laid_out(kind, key, if kind == PUT { key } else { b"" }, 0)
 }
 
-/// Puts all keys in, or takes them out, in an order. It returns `false` where an image or a reply is wrong on the way.
+/// Puts all keys in, or takes them out, in an order: `kind` is that of a put or of a removal, and `reply` the kind of the reply to each. It returns
+/// `false` where an image or a reply is wrong on the way.
 fn all_done(
     alloc: Global,
     store: &DocStore,
@@ -140,6 +145,7 @@ fn all_done(
     reply: u64,
 ) -> Result<bool, AllocError> {
     let puts = kind == PUT;
+    // no key is there before the puts, and each is before the removals
     let mut there = [!puts; 7];
     for at in order {
         if !done(alloc, store, image, &there, &on_key(kind, *at), reply)? {
@@ -147,6 +153,7 @@ fn all_done(
         }
         there[*at % 7] = puts;
     }
+    // at the end, a count of the pairs, with a look at the image before it
     done(
         alloc,
         store,
@@ -166,7 +173,7 @@ fn empty(alloc: Global, image: &mut [u64; 512]) -> Result<bool, AllocError> {
     }
 }
 
-/// Whether the keys can be put in in one order, and taken out in another.
+/// Whether the keys can be put into the empty store in the order `puts`, and then taken out in the order `takes`.
 fn there_and_back(
     alloc: Global,
     store: &DocStore,
@@ -211,7 +218,8 @@ fn seven_keys_in_every_order(rt: HostRuntime) -> Result<(), Fail> {
     Ok(())
 }
 
-/// How many accesses the removal of the middle one of seven keys takes, which in a balanced tree has a key at each side below it.
+/// How many accesses the removal of the middle one of seven keys takes, which in a balanced tree has a key at each side below it; 0 where the keys
+/// cannot be put.
 fn removal(alloc: Global) -> Result<u64, AllocError> {
     let store = DocStore::of(64);
     let mut image = [0; 512];
@@ -227,8 +235,9 @@ fn each_access_of_a_removal_can_be_refused(rt: HostRuntime) -> Result<(), Fail> 
     Ok(())
 }
 
-/// The first byte of the key at the root of an image, and the height of the root.
+/// The first byte of the key at the root of an image, and the height of the root; `None` where the words end before.
 fn root_of(image: &[u64]) -> Option<(u64, u64)> {
+    // the header has the root's line in word 1, and the root has its height in word 2 and the line of its key in word 3
     let node = (*image.get(1)? as usize).checked_mul(8)?;
     let height = *image.get(node.checked_add(2)?)?;
     let block = (*image.get(node.checked_add(3)?)? as usize).checked_mul(8)?;
@@ -236,8 +245,8 @@ fn root_of(image: &[u64]) -> Option<(u64, u64)> {
     Some((key, height))
 }
 
-// The key at the root, by its byte, and the height of the root after each of the keys a to g is put, worked by hand: first a (97), from the
-// third key on b (98), and from the sixth on d (100).
+// A row for each of the keys a to g: the first byte of the key at the root, and the height of the root, after the key is put. They were worked by
+// hand: the root is first a (97), from the third key on b (98), and from the sixth on d (100).
 static ROOTS: [(u64, u64); 7] = [
     (97, 1),
     (97, 2),
@@ -248,7 +257,7 @@ static ROOTS: [(u64, u64); 7] = [
     (100, 3),
 ];
 
-/// Whether the root of the image is as it should be after each key is put in, in rising order.
+/// Whether the root of the image has the key and the height of its row in `roots` after each key is put in, in rising order.
 fn have_roots(alloc: Global, roots: &[(u64, u64); 7]) -> Result<bool, AllocError> {
     let store = DocStore::of(64);
     let mut image = [0; 512];

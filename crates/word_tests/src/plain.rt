@@ -3,7 +3,7 @@
 ghost use Rattle.std.specs.Prelude.{◌+◌, ◌*◌, ◌/◌, ◌≤◌, ◌↔◌, IsTrue, length};
 ghost use Rattle.line_lanes.specs.Lines.{DiffersInLine, MarksLines, TouchesLine};
 
-// Whether a word of the line differs.
+// Whether `a` and `b` differ in a word of this line. Both have all words of the line.
 fn is_different(a: &[u64], b: &[u64], line: usize) -> bool
     requires a_line { 8 * line + 8 ≤ length a.now }
     requires b_line { 8 * line + 8 ≤ length b.now }
@@ -17,7 +17,7 @@ fn is_different(a: &[u64], b: &[u64], line: usize) -> bool
     false
 }
 
-// Marks the lines in which two lists of words differ.
+// Marks the lines in which two lists of words differ: `out` has a mark for each line, whatever it was before, and the lists have all their words.
 pub(crate) fn differing(a: &[u64], b: &[u64], out: &mut [bool])
     requires a_lines { 8 * length out.old ≤ length a.now }
     requires b_lines { 8 * length out.old ≤ length b.now }
@@ -40,7 +40,7 @@ fn is_touched(addresses: &[u64], line: usize) -> bool
     false
 }
 
-// Marks the lines in which some address lies.
+// Marks the lines in which some address lies: `out` has a mark for each line, whatever it was before.
 pub(crate) fn touched(addresses: &[u64], out: &mut [bool])
     ensures { MarksLines (TouchesLine addresses.now) out.new }
 {

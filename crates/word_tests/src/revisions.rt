@@ -15,21 +15,21 @@ use std::test::Fail;
 // back, the end, how many lines are given back, how many pairs there are, and the last revision; the node has its two children, its height, the
 // line and the length of its key and of its document, and its revision.
 const FIRST_VERSION: [u64; 32] = [
-    1, 1, 0, 4, 0, 1, 0, 0, //
-    0, 0, 1, 2, 1, 3, 1, 0, //
-    0, 97, 0, 0, 0, 0, 0, 0, //
-    0, 49, 0, 0, 0, 0, 0, 0, //
+    1, 1, 0, 4, 0, 1, 0, 0, // the header
+    0, 0, 1, 2, 1, 3, 1, 0, // the node
+    0, 97, 0, 0, 0, 0, 0, 0, // its key
+    0, 49, 0, 0, 0, 0, 0, 0, // its document
 ];
 
 // What `FIRST_VERSION` is in version 2: revision 1 is that of the pair, and the last one in the header.
 const SECOND_VERSION: [u64; 32] = [
-    2, 1, 0, 4, 0, 1, 1, 0, //
-    0, 0, 1, 2, 1, 3, 1, 1, //
-    0, 97, 0, 0, 0, 0, 0, 0, //
-    0, 49, 0, 0, 0, 0, 0, 0, //
+    2, 1, 0, 4, 0, 1, 1, 0, // the header
+    0, 0, 1, 2, 1, 3, 1, 1, // the node
+    0, 97, 0, 0, 0, 0, 0, 0, // its key
+    0, 49, 0, 0, 0, 0, 0, 0, // its document
 ];
 
-/// An image of version 1 upgraded, where it is lawful.
+/// The words of an image of version 1 after its upgrade to version 2; `None` where it is not a lawful image of version 1.
 fn upgraded(
     alloc: Global,
     store: &DocStore,
@@ -43,7 +43,7 @@ fn upgraded(
     Ok(Some(words))
 }
 
-/// Whether a lawful image has one document, with this revision.
+/// Whether an image is lawful and has one pair alone: the key `a` and the document `1`, with this revision.
 fn has_one(
     alloc: Global,
     store: &DocStore,
@@ -80,7 +80,8 @@ fn an_image_of_version_1_is_upgraded(rt: HostRuntime) -> Result<(), Fail> {
     Ok(())
 }
 
-/// Whether the store answers the operation of a row by its reply.
+/// Whether the store answers the operation of a row (its first half) by its reply (its second half). The memory holds a lawful image before, and
+/// where the answer is `true` also after.
 fn is_answered<M: Memory>(store: &DocStore, mem: &mut M, row: &(Row, Row)) -> bool
     requires size { M.size mem.old ≡ 8 * store.now.lines }
     requires writable { IsTrue (M.writable mem.old) }
@@ -95,7 +96,7 @@ fn is_answered<M: Memory>(store: &DocStore, mem: &mut M, row: &(Row, Row)) -> bo
     }
 }
 
-/// Whether the store answers the operations of rows in turn by their replies.
+/// Whether the store answers the operation of each row, one after the other, by its reply. The memory holds a lawful image before.
 fn are_answered_in<M: Memory>(store: &DocStore, mem: &mut M, rows: &[(Row, Row)]) -> bool
     requires size { M.size mem.old ≡ 8 * store.now.lines }
     requires writable { IsTrue (M.writable mem.old) }
@@ -109,21 +110,26 @@ fn are_answered_in<M: Memory>(store: &DocStore, mem: &mut M, rows: &[(Row, Row)]
     true
 }
 
-// Operations and replies from revision 2^64 - 1 as the last one on: each write gives this revision again, as there is none above.
+// A row is an operation and its reply, each by its kind, key, document and number. The last revision before is 2^64 - 1: each write gives this
+// revision again, as there is none above. Of the operations, 2 is a removal, 7 a put on condition of the revision that is its number, 8 a revision.
+// Of the replies, 3 is deleted, 12 set, 13 stale, 14 a revision.
 const GREATEST: [(Row, Row); 7] = [
+    // the key has revision 1 before, and the greatest one after a put
     ((8, "a", "", 0), (14, "", "", 1)),
     ((7, "a", "2", 1), (12, "", "", 18446744073709551615)),
     ((8, "a", "", 0), (14, "", "", 18446744073709551615)),
+    // a put on condition of revision 1 is stale, and one on condition of the greatest is done
     ((7, "a", "3", 1), (13, "", "", 18446744073709551615)),
     (
         (7, "a", "3", 18446744073709551615),
         (12, "", "", 18446744073709551615),
     ),
+    // after its removal the key is put again, on condition that it is missing (0)
     ((2, "a", "", 0), (3, "", "", 0)),
     ((7, "a", "4", 0), (12, "", "", 18446744073709551615)),
 ];
 
-/// Whether `SECOND_VERSION` with `last` as its last revision is an image, and the store answers the operations of rows in it by their replies.
+/// Whether `SECOND_VERSION` with `last` as its last revision is a lawful image, and the store answers the operations of rows in it by their replies.
 fn are_answered_after(alloc: Global, last: u64, rows: &[(Row, Row)]) -> Result<bool, AllocError> {
     let store = DocStore::of(4);
     let mut words = SECOND_VERSION;

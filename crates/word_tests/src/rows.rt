@@ -15,10 +15,10 @@ use std::test::Fail;
 /// 3 addition, 4 get, 5 next key, 6 count, 7 put on condition of a revision, and 8 revision; `kind_of` has a reply's. Kind 0 is none.
 pub(crate) type Row = (u64, &'static str, &'static str, u64);
 
-/// A key or a document of one letter.
+/// The letter x, 1,025 times: its first bytes are a key or a document of any length, also one that is too long by a byte.
 pub(crate) static LETTERS: [u8; 1025] = [b'x'; 1025];
 
-/// Lays bytes out from a word on: byte i is in word i / 8 at bits 8 * (i mod 8).
+/// Lays `bytes` out in words of 0, from the word at place `from` on: byte i is in word i / 8 of them, at bits 8 * (i mod 8).
 fn lay(words: &mut [u64], from: usize, bytes: &[u8]) {
     for (i, byte) in bytes.iter().enumerate() {
         if let Some(word) = words.get_mut(from.saturating_add(i / 8)) {
@@ -27,7 +27,8 @@ fn lay(words: &mut [u64], from: usize, bytes: &[u8]) {
     }
 }
 
-/// The words of an operation or a reply of these parts.
+/// The words of an operation or a reply of these parts: word 0 is the kind, words 1 and 2 are the lengths of the key and of the document, word 3 is
+/// the number. The key begins at word 8 and the document at word 16. All other words are 0.
 pub(crate) fn laid_out(kind: u64, key: &[u8], document: &[u8], number: u64) -> [u64; 144] {
     let mut words = [0; 144];
     words[0] = kind;
@@ -44,7 +45,7 @@ pub(crate) fn words_of(row: Row) -> [u64; 144] {
     laid_out(row.0, row.1.as_bytes(), row.2.as_bytes(), row.3)
 }
 
-/// The kind of a reply's words.
+/// The kind of a reply, which is word 0 of its words.
 fn kind_of(reply: &Reply) -> u64 {
     match reply {
         Reply::New => 1,
@@ -92,7 +93,7 @@ fn number_of(reply: &Reply) -> u64 {
     }
 }
 
-/// Whether a reply has these parts.
+/// Whether a reply has the parts of the row `want`: the kind, the key, the document and the number.
 pub(crate) fn has_reply(reply: &Reply, want: &Row) -> bool {
     kind_of(reply) == want.0
         && key_of(reply) == want.1.as_bytes()
@@ -108,7 +109,8 @@ pub(crate) fn same_reply(one: &Reply, other: &Reply) -> bool {
         && number_of(one) == number_of(other)
 }
 
-/// The plain program's reply to the operation of these words in `lines` lines, or `None` where they are no operation's.
+/// The reply of the plain program, which keeps `pairs`, to the operation of these words in a store of `lines` lines. It is `None` where the words
+/// are no operation's. The pairs are afterwards those that the operation leaves.
 pub(crate) fn meant(
     alloc: Global,
     pairs: &mut Pairs,
@@ -122,7 +124,7 @@ pub(crate) fn meant(
     }
 }
 
-/// Whether the plain program's reply to an operation's words has these parts. Words of no operation have no reply, and the row has kind 0.
+/// Whether the plain program's reply to the words `op` has the parts of `want`. Words of no operation have no reply, and `want` has kind 0.
 fn is_meant(
     alloc: Global,
     pairs: &mut Pairs,
@@ -136,7 +138,8 @@ fn is_meant(
     })
 }
 
-/// The words of the store's reply to an operation's words.
+/// The words of the store's reply to the operation with the words `op`. The memory has the words of a lawful image before, and also after, unless
+/// it halts.
 pub(crate) fn asked<M: Memory>(
     store: &DocStore,
     mem: &mut M,
@@ -152,7 +155,7 @@ pub(crate) fn asked<M: Memory>(
     store.run(mem, op)
 }
 
-/// Makes the words those of the empty store.
+/// Makes the words of a memory the image of the empty store, whatever they were. The image is lawful, unless the memory halts.
 pub(crate) fn opened<M: Memory>(store: &DocStore, mem: &mut M) -> Result<(), Halt>
     requires size { M.size mem.old ≡ 8 * store.now.lines }
     requires writable { IsTrue (M.writable mem.old) }
@@ -163,7 +166,8 @@ pub(crate) fn opened<M: Memory>(store: &DocStore, mem: &mut M) -> Result<(), Hal
     store.format(mem)
 }
 
-/// Whether the store and the plain program both answer the operation of a row by its reply.
+/// Whether the store and the plain program both answer the operation of a row (its first half) by its reply (its second half). The memory holds a
+/// lawful image before, and after where the answer is `true`.
 fn is_answered<M: Memory>(
     alloc: Global,
     store: &DocStore,
@@ -187,7 +191,7 @@ fn is_answered<M: Memory>(
     }
 }
 
-/// Whether the store, which is made empty before, and the plain program both answer the operations of rows in turn by their replies.
+/// Whether the store, which is made empty before, and the plain program both answer the operation of each row, one after the other, by its reply.
 fn both_answer<M: Memory>(
     alloc: Global,
     store: &DocStore,
@@ -198,6 +202,7 @@ fn both_answer<M: Memory>(
     requires size { M.size mem.old ≡ 8 * store.now.lines }
     requires writable { IsTrue (M.writable mem.old) }
 {
+    // the store is empty now, or its memory halted
     let Ok(()) = opened(store, mem) else {
         return Ok(false);
     };
@@ -232,8 +237,11 @@ pub(crate) fn are_answered(
     both_answer(alloc, &DocStore::of(lines), &mut mem, &mut pairs, rows)
 }
 
-// 19 pairs of three lines each, and k19 of six lines: with them, all 63 lines behind the header are in use.
+// 19 pairs of three lines each, and k19 of six lines: with them, all 63 lines behind the header are in use. A row is an operation and its reply, each
+// by its kind, key, document and number. Of the operations, 1 is a put, 3 an addition, 4 a get, 5 the next key, 6 the count. Of the replies, 1 is
+// new, 2 replaced, 4 absent, 5 a document, 6 a sum, 9 no room, 10 a key, 11 a number.
 static FULL: [(Row, Row); 30] = [
+    // puts of new keys: the kind, key, document and number of the operation, then those of the reply
     ((1, "k00", "0", 0), (1, "", "", 0)),
     ((1, "k01", "0", 0), (1, "", "", 0)),
     ((1, "k02", "0", 0), (1, "", "", 0)),
@@ -242,6 +250,7 @@ static FULL: [(Row, Row); 30] = [
     ((1, "k05", "0", 0), (1, "", "", 0)),
     ((1, "k06", "0", 0), (1, "", "", 0)),
     ((1, "k07", "0", 0), (1, "", "", 0)),
+    // more puts (1) of new keys, each answered as new (1)
     ((1, "k08", "0", 0), (1, "", "", 0)),
     ((1, "k09", "0", 0), (1, "", "", 0)),
     ((1, "k10", "0", 0), (1, "", "", 0)),
@@ -249,10 +258,12 @@ static FULL: [(Row, Row); 30] = [
     ((1, "k12", "0", 0), (1, "", "", 0)),
     ((1, "k13", "0", 0), (1, "", "", 0)),
     ((1, "k14", "0", 0), (1, "", "", 0)),
+    // the last of the pairs of three lines
     ((1, "k15", "0", 0), (1, "", "", 0)),
     ((1, "k16", "0", 0), (1, "", "", 0)),
     ((1, "k17", "0", 0), (1, "", "", 0)),
     ((1, "k18", "0", 0), (1, "", "", 0)),
+    // k19 is put: a line for its node, one for its key, and four for its document
     (
         (
             1,
@@ -262,14 +273,16 @@ static FULL: [(Row, Row); 30] = [
         ),
         (1, "", "", 0),
     ),
-    // there is no room for a new key
+    // there is no room (9) for a new key, neither by a put nor by an addition
     ((1, "k20", "0", 0), (9, "", "", 0)),
     ((3, "k20", "", 1), (9, "", "", 0)),
+    // so a get does not find it, and the count is 20
     ((4, "k20", "", 0), (4, "", "", 0)),
     ((6, "", "", 0), (11, "", "", 20)),
-    // a shorter document of k19 makes room for it
+    // a shorter document of k19 is put over the long one, which makes room for k20
     ((1, "k19", "0", 0), (2, "", "", 0)),
     ((1, "k20", "0", 0), (1, "", "", 0)),
+    // 7 is added to the 0 of k18; there are 21 pairs; k19 is the next key above k18; k20 has its document
     ((3, "k18", "", 7), (6, "", "", 7)),
     ((6, "", "", 0), (11, "", "", 21)),
     ((5, "k18", "", 0), (10, "k19", "", 0)),
@@ -277,19 +290,24 @@ static FULL: [(Row, Row); 30] = [
 ];
 
 // A sum at the end of 64 bits with a sign, and sums below 0. As words, 9223372036854775807 is the greatest number and 9223372036854775808 the
-// least, 18446744073709551615 is -1, and 18446744073709551611 is -5.
+// least, 18446744073709551615 is -1, and 18446744073709551611 is -5. A row is an operation and its reply, each by its kind, key, document and
+// number. Of the operations, 3 is an addition and 4 a get. Of the replies, 5 is a document, 6 a sum, 8 an overflow.
 static SUMS: [(Row, Row); 7] = [
+    // the greatest number is added to a key that is missing, which counts as 0
     (
         (3, "k", "", 9223372036854775807),
         (6, "", "", 9223372036854775807),
     ),
+    // one more overflows, and changes nothing
     ((3, "k", "", 1), (8, "", "", 0)),
     ((4, "k", "", 0), (5, "", "9223372036854775807", 0)),
+    // the least number is added: the sum is -1
     (
         (3, "k", "", 9223372036854775808),
         (6, "", "", 18446744073709551615),
     ),
     ((4, "k", "", 0), (5, "", "-1", 0)),
+    // -5 is added to another missing key
     (
         (3, "n", "", 18446744073709551611),
         (6, "", "", 18446744073709551611),
@@ -297,19 +315,26 @@ static SUMS: [(Row, Row); 7] = [
     ((4, "n", "", 0), (5, "", "-5", 0)),
 ];
 
-// A document that is no number, so that nothing is added to it, and a key that is taken out and is gone then.
+// A document that is no number, so that nothing is added to it, and a key that is taken out and is gone then. A row is an operation and its reply,
+// each by its kind, key, document and number. Of the operations, 1 is a put, 2 a removal, 3 an addition, 4 a get. Of the replies, 1 is new, 3
+// deleted, 4 absent, 5 a document, 7 no number.
 static NO_NUMBERS: [(Row, Row); 6] = [
+    // the document is put, and got
     ((1, "a", "{\"a\":[],\"b\":1}", 0), (1, "", "", 0)),
     ((4, "a", "", 0), (5, "", "{\"a\":[],\"b\":1}", 0)),
+    // an addition to it is refused, as it is no number
     ((3, "a", "", 1), (7, "", "", 0)),
+    // the key is removed, and is then missing for a removal and for a get
     ((2, "a", "", 0), (3, "", "", 0)),
     ((2, "a", "", 0), (4, "", "", 0)),
     ((4, "a", "", 0), (4, "", "", 0)),
 ];
 
-// Words at the limits of an operation, and words that are no operation's, which zeros answer.
+// Words at the limits of an operation, and words that are no operation's, which zeros answer: a reply of kind 0. A row is an operation and its reply,
+// each by its kind, key, document and number. Of the operations, 1 is a put, 4 a get, 6 the count, 7 a put on condition, 8 a revision. Of the
+// replies, 1 is new, 5 a document, 11 a number.
 static AT_THE_LIMITS: [(Row, Row); 12] = [
-    // a key of 64 bytes, and one of 65
+    // a put of a key of 64 bytes
     (
         (
             1,
@@ -319,6 +344,7 @@ static AT_THE_LIMITS: [(Row, Row); 12] = [
         ),
         (1, "", "", 0),
     ),
+    // a get of it
     (
         (
             4,
@@ -328,6 +354,7 @@ static AT_THE_LIMITS: [(Row, Row); 12] = [
         ),
         (5, "", "1", 0),
     ),
+    // a put of a key of 65 bytes: no operation
     (
         (
             1,
@@ -337,6 +364,7 @@ static AT_THE_LIMITS: [(Row, Row); 12] = [
         ),
         (0, "", "", 0),
     ),
+    // a get of it: no operation
     (
         (
             4,
@@ -359,12 +387,17 @@ static AT_THE_LIMITS: [(Row, Row); 12] = [
     ((6, "", "", 0), (11, "", "", 1)),
 ];
 
-// Seven lines, of which two pairs take six: a document of 56 bytes takes one line, and one of 57 bytes takes two, for which there is no room.
+// Seven lines, of which two pairs take six: a document of 56 bytes takes one line, and one of 57 bytes takes two, for which there is no room. A row
+// is an operation and its reply, each by its kind, key, document and number. Of the operations, 1 is a put, 3 an addition, 5 the next key, 6 the
+// count. Of the replies, 1 is new, 2 replaced, 4 absent, 6 a sum, 9 no room, 10 a key, 11 a number.
 static SEVEN_LINES: [(Row, Row); 8] = [
+    // there is no key yet; then two keys come in, by a put and by an addition
     ((5, "", "", 0), (4, "", "", 0)),
     ((1, "b", "1", 0), (1, "", "", 0)),
     ((3, "a", "", 41), (6, "", "", 41)),
+    // there is no room for a third key
     ((1, "c", "1", 0), (9, "", "", 0)),
+    // 57 bytes at b have no room
     (
         (
             1,
@@ -374,6 +407,7 @@ static SEVEN_LINES: [(Row, Row); 8] = [
         ),
         (9, "", "", 0),
     ),
+    // 56 bytes at b have room
     (
         (
             1,
@@ -383,44 +417,62 @@ static SEVEN_LINES: [(Row, Row); 8] = [
         ),
         (2, "", "", 0),
     ),
+    // b is the next key above a, and there are two pairs
     ((5, "a", "", 0), (10, "b", "", 0)),
     ((6, "", "", 0), (11, "", "", 2)),
 ];
 
-// Two keys: the least one above each key, if there is one, and the number of pairs.
+// Two keys: the least one above each key, if there is one, and the number of pairs. A row is an operation and its reply, each by its kind, key,
+// document and number. Of the operations, 1 is a put, 5 the next key, 6 the count. Of the replies, 1 is new, 4 absent, 10 a key, 11 a number.
 static LEAST_KEYS: [(Row, Row); 7] = [
+    // a and c are put
     ((1, "a", "1", 0), (1, "", "", 0)),
     ((1, "c", "2", 0), (1, "", "", 0)),
+    // the next key: above none, above a, above the missing b, and above c, where there is none
     ((5, "", "", 0), (10, "a", "", 0)),
     ((5, "a", "", 0), (10, "c", "", 0)),
     ((5, "b", "", 0), (10, "c", "", 0)),
     ((5, "c", "", 0), (4, "", "", 0)),
+    // the number of pairs
     ((6, "", "", 0), (11, "", "", 2)),
 ];
 
 // Each write of a key has the next revision. A put on condition of another revision is stale, which names the key's revision, or 0 where it is
-// missing.
+// missing. A row is an operation and its reply, each by its kind, key, document and number. Of the operations, 1 is a put, 2 a removal, 4 a get, 6
+// the count, 7 a put on condition of the revision that is its number, 8 a revision. Of the replies, 1 is new, 2 replaced, 3 deleted, 4 absent, 5 a
+// document, 11 a number, 12 set, 13 stale, 14 a revision.
 static REVISIONS: [(Row, Row); 12] = [
+    // on condition that a is missing (0): it is set with revision 1, and the second time it is stale
     ((7, "a", "1", 0), (12, "", "", 1)),
     ((7, "a", "2", 0), (13, "", "", 1)),
+    // a plain put gives revision 2
     ((1, "a", "3", 0), (2, "", "", 0)),
     ((8, "a", "", 0), (14, "", "", 2)),
+    // on condition of revision 2, which is right: it is set with revision 3
     ((7, "a", "4", 2), (12, "", "", 3)),
     ((4, "a", "", 0), (5, "", "4", 0)),
+    // the key is removed: it has no revision, and a put on condition of its old one is stale
     ((2, "a", "", 0), (3, "", "", 0)),
     ((8, "a", "", 0), (4, "", "", 0)),
     ((7, "a", "5", 3), (13, "", "", 0)),
+    // it is put again, with revision 4, as revisions go on
     ((1, "a", "5", 0), (1, "", "", 0)),
     ((8, "a", "", 0), (14, "", "", 4)),
     ((6, "", "", 0), (11, "", "", 1)),
 ];
 
-// Seven lines, filled by a and b. A put that is stale and has no room is answered stale, and a put without room gives no revision.
+// Seven lines, filled by a and b. A put that is stale and has no room is answered stale, and a put without room gives no revision. A row is an
+// operation and its reply, each by its kind, key, document and number. Of the operations, 1 is a put, 2 a removal, 3 an addition, 7 a put on
+// condition of the revision that is its number, 8 a revision. Of the replies, 1 is new, 3 deleted, 6 a sum, 9 no room, 12 set, 13 stale, 14 a
+// revision.
 static STALE_WITHOUT_ROOM: [(Row, Row); 11] = [
+    // a is put with revision 1, and b with revision 2
     ((1, "a", "1", 0), (1, "", "", 0)),
     ((1, "b", "1", 0), (1, "", "", 0)),
+    // a new key on condition of revision 1 is stale; on condition that it is missing, there is no room
     ((7, "c", "1", 1), (13, "", "", 0)),
     ((7, "c", "1", 0), (9, "", "", 0)),
+    // two lines of document at a, on condition of revision 2: stale, as a has revision 1
     (
         (
             7,
@@ -430,6 +482,7 @@ static STALE_WITHOUT_ROOM: [(Row, Row); 11] = [
         ),
         (13, "", "", 1),
     ),
+    // on condition of revision 1: no room
     (
         (
             7,
@@ -439,23 +492,30 @@ static STALE_WITHOUT_ROOM: [(Row, Row); 11] = [
         ),
         (9, "", "", 0),
     ),
+    // a has still revision 1
     ((8, "a", "", 0), (14, "", "", 1)),
+    // b makes room for c, which has revision 3, the next one; the addition to a gives revision 4
     ((2, "b", "", 0), (3, "", "", 0)),
     ((7, "c", "1", 0), (12, "", "", 3)),
     ((3, "a", "", 1), (6, "", "", 2)),
     ((8, "a", "", 0), (14, "", "", 4)),
 ];
 
-// Operations, and whether they are readings. Words of no operation, as a get without a key, are none.
+// An operation by its kind, key, document and number, and whether it is a reading. Words of no operation, as a get without a key, are none. Kind 1 is
+// a put, 2 a removal, 3 an addition, 4 a get, 5 the next key, 6 the count, 7 a put on condition, 8 a revision.
 static READINGS: [(Row, bool); 11] = [
+    // changes
     ((1, "a", "1", 0), false),
     ((2, "a", "", 0), false),
     ((3, "a", "", 1), false),
+    // readings
     ((4, "a", "", 0), true),
     ((5, "", "", 0), true),
     ((6, "", "", 0), true),
+    // no operations, as the key is missing
     ((4, "", "", 0), false),
     ((7, "", "", 0), false),
+    // a change, a reading, and a reading without its key
     ((7, "a", "1", 4), false),
     ((8, "a", "", 0), true),
     ((8, "", "", 0), false),

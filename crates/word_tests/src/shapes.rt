@@ -15,7 +15,7 @@ const TREE: [u64; 32] = [
     0, 0, 1, 0, 0, 0, 0, 0, // a leaf
 ];
 
-// A root, a number of nodes, and whether they are a tree.
+// The line of a root, a number of nodes, and whether a tree of that many nodes is below this root.
 const SHAPES: [(u64, u32, bool); 9] = [
     // no root
     (0, 0, true),
@@ -32,7 +32,8 @@ const SHAPES: [(u64, u32, bool); 9] = [
     (u64::MAX, 1, false),
 ];
 
-// The number of the first row of which `is_balanced` does not return what the row says.
+// The number of the first row (a root, a number of nodes, and whether they are a tree) of which `is_balanced` does not say so; `None` where there is
+// none.
 fn first_other_shape(words: &[u64], rows: &[(u64, u32, bool)]) -> Option<usize>
     requires { IsPartLength (length words.now) }
 {
@@ -44,7 +45,7 @@ fn first_other_shape(words: &[u64], rows: &[(u64, u32, bool)]) -> Option<usize>
     None
 }
 
-// Whether a walk from line 2 is over three nodes in the order of their lines.
+// Whether a walk over the tree with its root in line 2 is over lines 1, 2 and 3, in this order, and then ends.
 fn are_walked(words: &[u64]) -> bool
     requires sized { IsPartLength (length words.now) }
     requires tree { HasTree words.now 2 0 }

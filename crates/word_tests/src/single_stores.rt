@@ -14,8 +14,8 @@ use doc_store::DocStore;
 use std::alloc::{AllocError, Global};
 use std::test::Fail;
 
-/// The stores of operations, and how many of them were of a word that the same operation had stored before, or of one
-/// that was in the end as it had been.
+/// The stores of operations: how many there were (`all`), how many of them were of a word that the same operation had stored before (`again`), and
+/// how many words an operation stored that were in the end as they had been (`needless`).
 #[derive(Clone, Copy)]
 struct Stores {
     all: u64,
@@ -30,7 +30,7 @@ const NO_STORES: Stores = Stores {
     needless: 0,
 };
 
-/// Adds the stores of one operation to those so far, and sets the counts of all words back to 0.
+/// The stores so far with those of one operation, of which `words` has the counts of each word. It sets these counts back to 0.
 fn counted(words: &mut [WordStores], so_far: Stores) -> Stores {
     let mut sum = so_far;
     for word in words.iter_mut() {
@@ -50,7 +50,7 @@ fn are_single(stores: &Stores, more_than: u64) -> bool {
     stores.again == 0 && stores.needless == 0 && stores.all > more_than
 }
 
-/// The stores of `commands` mixed commands.
+/// The stores of `commands` commands that look random, in a store that is made empty before. The stores that make it empty are not counted.
 fn stores_of<M: Memory>(
     store: &DocStore,
     mem: &mut Counting<M>,
@@ -70,7 +70,8 @@ fn stores_of<M: Memory>(
     Ok(sum)
 }
 
-/// Whether `commands` mixed commands in `lines` lines make more stores than `more_than`, each of a word that it changes.
+/// Whether `commands` commands that look random make more stores than `more_than` in `lines` lines, each of another word of its operation, which it
+/// changes.
 fn store_once(alloc: Global, lines: u64, commands: u64, more_than: u64) -> Result<bool, AllocError>
     requires some { 1 ≤ lines }
     requires few { lines ≤ 2 ^ 14 }
@@ -95,8 +96,9 @@ const SMALLEST: [u64; 18] = [
     0, 1, 2, 4, 7, 12, 20, 33, 54, 88, 143, 232, 376, 609, 986, 1596, 2583, 4180,
 ];
 
-/// A smallest balanced tree of a height, over the numbers from `least` on. Its left side is the lower one where `is_left`, and else its right
-/// side. Each tree at the left of a node has `is_left`; of those at the right, only the one below the root of the whole tree has it.
+/// A smallest balanced tree of a height, whose keys have the numbers from `least` on. Below its root, the left side is the lower one where `is_left`,
+/// and else the right side. Each tree at the left of a node has `is_left`; of those at the right, only the one below the root of the whole tree has
+/// it.
 #[derive(Clone, Copy)]
 struct Smallest {
     least: u64,
@@ -104,9 +106,8 @@ struct Smallest {
     is_left: bool,
 }
 
-/// The whole tree. Its root is lower at its right, and the tree there has `is_left`, so that where the root goes, the next number
-/// takes its place, which stands at the end of a way through the lower side of each node, and each node of this way turns
-/// twice.
+/// The whole tree. The right side of its root is the lower one, and in the tree at its right the left side is. Where the key of the root is removed,
+/// the next key takes its place, from the end of a path through the lower side of each node. Each node of this path needs a double rotation then.
 const WHOLE: Smallest = Smallest {
     least: 0,
     height: 17,
@@ -123,7 +124,7 @@ impl Smallest {
         }
     }
 
-    /// The number of its root.
+    /// The number of the key at its root. As many of its keys are before this one as the tree at the left has.
     fn root(&self) -> u64 {
         let before = SMALLEST.get(self.below_left().height).copied();
         self.least.saturating_add(before.unwrap_or(0))
@@ -139,11 +140,11 @@ impl Smallest {
     }
 }
 
-/// The smallest tree of height 17 with those below it, level by level: keys put in the order of their roots make the tree,
-/// and turn no node.
+/// The smallest tree of height 17 with those below it, level by level: keys put in the order of their roots make the tree without a rotation.
 fn level_by_level(alloc: Global) -> Result<Vec<Smallest>, AllocError> {
     let mut trees = Vec::new(alloc);
     trees.push(WHOLE)?;
+    // the two trees below each tree go to the end of the list; one of height 0 has no key
     for i in 0..4180 {
         let Some(tree) = trees.get(i).copied() else {
             break;
@@ -164,7 +165,7 @@ fn on_long_key(kind: u64, n: u64, document: &[u8]) -> [u64; 144] {
     laid_out(kind, &key, document, 0)
 }
 
-/// Puts short pairs at keys of the numbers of these roots.
+/// Puts a pair of one letter at the key of each tree's root. The memory holds a lawful image before, and unless it halts also after.
 fn put_short<M: Memory>(store: &DocStore, mem: &mut M, trees: &[Smallest]) -> Result<(), Halt>
     requires size { M.size mem.old ≡ 8 * store.now.lines }
     requires writable { IsTrue (M.writable mem.old) }
@@ -179,7 +180,8 @@ fn put_short<M: Memory>(store: &DocStore, mem: &mut M, trees: &[Smallest]) -> Re
     Ok(())
 }
 
-/// Makes a tree but for its last key, of which the root's pair is of the longest.
+/// Makes the empty store, puts the longest pair at key number `root`, and a short pair at the key of the root of each tree in `others`. The image is
+/// lawful then, unless the memory halts.
 fn grown<M: Memory>(
     store: &DocStore,
     mem: &mut M,
@@ -197,8 +199,8 @@ fn grown<M: Memory>(
     put_short(store, mem, others)
 }
 
-/// Whether the last put of a tree, which is of the longest pair, and the removal of its root, which is one too, store each
-/// word that they change once.
+/// Whether two operations store each word that they change once, and no other: the put of the longest pair at key number `last`, after that of `root`
+/// and of the roots of `others`, and the removal of the longest pair at `root`. They make more than 170 and more than 60 stores.
 fn are_deep<M: Memory>(
     store: &DocStore,
     mem: &mut Counting<M>,
@@ -209,16 +211,20 @@ fn are_deep<M: Memory>(
     requires size { M.size mem.old.inner ≡ 8 * store.now.lines }
     requires writable { IsTrue (M.writable mem.old.inner) }
 {
+    // all keys but the last; their stores are not looked at
     grown(store, mem, root, others)?;
     counted(&mut mem.words, NO_STORES);
+    // the put of the last key
     asked(store, mem, &on_long_key(PUT, last, &LETTERS[..1024]))?;
     let put = counted(&mut mem.words, NO_STORES);
+    // the removal of the key at the root
     asked(store, mem, &on_long_key(DEL, root, b""))?;
     let taken = counted(&mut mem.words, NO_STORES);
     Ok(are_single(&put, 170) && are_single(&taken, 60))
 }
 
-/// Whether the last two changes of a tree, whose roots come level by level, store each word that they change once.
+/// Whether the last put that makes a tree, and the removal of its root's key, store each word that they change once. `trees` has the tree, and those
+/// below it, level by level. It is `false` also where the memory halts.
 fn are_last<M: Memory>(store: &DocStore, mem: &mut Counting<M>, trees: &[Smallest]) -> bool
     requires size { M.size mem.old.inner ≡ 8 * store.now.lines }
     requires writable { IsTrue (M.writable mem.old.inner) }
@@ -237,6 +243,7 @@ fn are_last<M: Memory>(store: &DocStore, mem: &mut Counting<M>, trees: &[Smalles
 fn a_change_of_the_deepest_tree_stores_no_word_twice(rt: HostRuntime) -> Result<(), Fail> {
     let mut mem = counted_words(rt.alloc(), 16_384)?;
     let trees = level_by_level(rt.alloc())?;
+    // the smallest tree of height 17 has 4,180 keys, and without its root's key the height is 16
     holds(&rt, trees.len() == 4180);
     holds(&rt, are_last(&DocStore::of(16_384), &mut mem, &trees));
     holds(&rt, has_height(mem, 16));

@@ -5,6 +5,7 @@ use Rattle.std.proofs.lemmas.Result.{IfOk-weaker}
 use Rattle.doc_store.proofs.Stepping.{op_are_words, image_goes_on}
 use Rattle.word_tests.proofs.rows.asked.Goals as goal
 
+-- Where the step is done, all that the memory may hold is a lawful image of the store: a step of the store leads from a lawful image to one.
 pub returns-clause-lawful : goal.returns-clause-lawful
 returns-clause-lawful g c =
     let op = c.args.op.now in

@@ -3,6 +3,7 @@ use Rattle.cx_base.specs.Memory.{Always}
 use Rattle.doc_store.specs.ExactStep.{IsImageOfStore}
 use Rattle.word_tests.proofs.single_stores.stores_of.Given as goal
 
+-- The counted memory has as many words as the lines of the store, it may be stored to, and all that it may hold is a lawful image of the store.
 abbrev pub invariant-loop : goal.invariant-loop
 invariant-loop g l = record {
   size : g.M.Memory.size l.mem.inner ≡ 8 * l.store.lines;
