@@ -21,7 +21,7 @@ step_long step entry ws =
     let slot = overwritten (slot_start entry.caller) (entry.number ∷ done.1) part in
     length-overwritten ((place_of ws + 1) ∷ []) slot 0 ∙ length-overwritten (entry.number ∷ done.1) part (slot_start entry.caller) ∙ length-overwritten done.0 ws 1168
 
--- the full step of an entry adds 1 to the place of a region `ws`
+-- the full step of an entry adds 1 to the place of a region `ws`. `slot` is the region with the object's new image, and the entry's number and reply.
 step_placed : (step : List ℕ → List ℕ → List ℕ × List ℕ) (entry : Entry) (ws : List ℕ) → 0 < length ws → place_of (full_step_of step entry ws) ≡ place_of ws + 1
 unfolding full_step_of overwritten
 step_placed step entry ws some =

@@ -26,16 +26,18 @@ use Rattle.cx_core.specs.declared.local.Local.{Local}
 pub record Knows (l : Local) : Type 0 where
   pub each : (k ticket : ℕ) → (cell_of l k).ticket ≡ Some ticket → HasTicket l.own ticket
 
--- where `l'` has the cells of `l` with `cell` put at `j`, each of its cells `k` is `cell`, or as in `l`
+-- where `l'` has the cells of `l` with `cell` put at `j`, each of its cells `k` is `cell`, or as in `l`. `blank` stands for a cell past the last one.
 put_cases : (l l' : Local) (j k : ℕ) (cell : Cell) → l'.cells ≡ set l.cells j cell → (cell_of l' k ≡ cell) ⊎ (cell_of l' k ≡ cell_of l k)
 put_cases l l' j k cell cells =
     let blank : Cell = record { words = []; ticket = None; set = []; offer = 0 } in
     let is : cell_of l' k ≡ get_or (set l.cells j cell) k blank = ap (λ cs. get_or cs k blank) cells in
     elim (cases_eq k j) [
+      -- the cell at `j`: it is put where the list has a cell `j`
       | inl e ↦ elim (cases_lt j (length l.cells)) [
         | inl within ↦ inl (is ∙ ap (λ n. get_or (set l.cells j cell) n blank) e ∙ get_or-set_same l.cells j cell blank within)
         | inr past ↦ inr (is ∙ get_or_past (set l.cells j cell) k blank (omega (arith, e, length-set l.cells j cell)) ∙ sym (get_or_past l.cells k blank (omega (arith, e))))
       ]
+      -- another cell
       | inr ne ↦ inr (is ∙ get_or-set_other l.cells j k cell blank ne)
     ]
 
@@ -52,7 +54,9 @@ same_known l l' knows own cells = record {
 put_known : (l l' : Local) (j : ℕ) (cell : Cell) → Knows l → l'.own ≡ l.own → l'.cells ≡ set l.cells j cell → ((ticket : ℕ) → cell.ticket ≡ Some ticket → HasTicket l.own ticket) → Knows l'
 put_known l l' j cell knows own cells here = record {
   each = λ k ticket is. subst (λ xs. HasTicket xs ticket) (sym own) (elim (put_cases l l' j k cell cells) [
+    -- this cell is the one put, so its ticket is known by `here`
     | inl e ↦ here ticket (ap (λ (c : Cell). c.ticket) (sym e) ∙ is)
+    -- this cell is as it was
     | inr e ↦ knows.each k ticket (ap (λ (c : Cell). c.ticket) (sym e) ∙ is)
   ]);
 }
@@ -65,9 +69,11 @@ link_known l j knows = record {
       let x : Linked = record { ticket = l.front; entry = entry_in l j } in
       let cell : Cell = record (cell_of l j) { ticket = Some l.front } in
       elim (put_cases l (linked l j) j k cell refl) [
+        -- the cell linked has the front as its ticket, which is that of the last own entry now
         | inl e ↦ (
             let same : l.front ≡ ticket = same_Some l.front ticket (ap (λ (c : Cell). c.ticket) (sym e) ∙ is) in
             record { i = length l.own; entry = x; at = slice_get-last l.own x; is = same })
+        -- the cell is as it was, and its ticket that of an earlier own entry
         | inr e ↦ (
             let old = knows.each k ticket (ap (λ (c : Cell). c.ticket) (sym e) ∙ is) in
             record { i = old.i; entry = old.entry; at = slice_get-append_left l.own (x ∷ []) old.i old.entry old.at; is = old.is })

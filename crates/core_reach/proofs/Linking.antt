@@ -95,7 +95,7 @@ cell_written instance caller history s l here j small idle ws fit =
     (record { own = refl; answered = refl; idle = idle; written = λ k below. absurd (omega arith) })
 
 -- where `t` and `u` have the same remainder by `w`, and `t` is below `u`, they are at least `w` apart. For tickets, with `w` slots: those of one slot
--- are a round apart.
+-- are a round apart. `a` and `b` give `t` and `u` by quotient and remainder, `rows` compares the quotients times `w`.
 round_apart : (t u w : ℕ) → 0 < w → t % w ≡ u % w → t < u → t + w ≤ u
 round_apart t u w some same less =
     let a = div-add-mod' t w in
@@ -112,7 +112,8 @@ round_apart t u w some same less =
           absurd (omega (arith, a, b, rows, same)))
     ]
 
--- `u - w` has the same remainder by `w` as `u`. For tickets, with `w` slots: the one a round before has the same slot.
+-- `u - w` has the same remainder by `w` as `u`. For tickets, with `w` slots: the one a round before has the same slot. `one`: the quotient of `u` is
+-- above 0; `is`: `u - w` has a quotient less by 1 and the same remainder.
 round_before : (u w : ℕ) → 0 < w → w ≤ u → (u - w) % w ≡ u % w
 round_before u w some enough =
     let a = div-add-mod' u w in
@@ -152,7 +153,8 @@ module _ (instance : Instance) (history : List Entry) (callers_of : (ticket : �
       let not_zero : word ≢ 0 = λ e. (let nothing : ticket * (16 * instance.callers) + (16 * entry.caller + j) + 1 ≡ 0 = sym is ∙ e in omega arith) in
       ap (λ b. cond b front (max front (link_ticket_of instance.callers word + 1))) (ne_eqb word 0 not_zero) ∙ omega (arith, is_ticket, within, most)
 
-  -- the link word of the end's slot shows that the next ticket can be linked there: it is 0, or names the ticket a round before the end
+  -- the link word of the end's slot shows that the next ticket can be linked there: it is 0, or names the ticket a round before the end. `round`: the
+  -- ticket named is a round or more before the end; `most`: the ticket a round before the end is not above the one named.
   shows_open : (word : ℕ) → LinkWord instance history (end_ % q) word → (word ≡ 0) ⊎ ((0 < word) × (link_ticket_of instance.callers word + q ≡ end_))
   shows_open word (Never none zero) = inl zero
   shows_open word (Names ticket entry j greatest below is) =
@@ -176,7 +178,7 @@ pub record AtEnd (instance : Instance) (l0 : Local) (j : ℕ) (ws : List ℕ) (e
   pub open_ : ShowsOpen instance.callers l.seen_slot l.front
   pub found : slice_index s.words (link_at instance.callers (l.front % cell_count instance.callers)) ≡ seen_word l.seen_slot
 
--- the caller looks at the link slot of the last ticket, and then at that of the ticket after it
+-- the caller looks at the link slot of the ticket before the history's end, and then at that of the ticket there, which is linked next
 module _ (instance : Instance) (caller : ℕ) (history : List Entry) (l0 : Local) (j : ℕ) (small : j < 16) (ws : List ℕ) (fit : Words 145 ws) (s : State) (l : Local)
     (here : Here instance caller history s l) (writing : Writing l0 j ws 145 l) where
   -- the local state that a look at this link slot makes of `l'` in the state `s'`
@@ -197,7 +199,7 @@ module _ (instance : Instance) (caller : ℕ) (history : List Entry) (l0 : Local
   many : 0 < round
   many = omega (arith, here.law.shape.some)
 
-  -- the link slot of the last ticket of the history
+  -- the link slot of the ticket before the history's end
   abbrev last_slot : ℕ
   last_slot = (last_end - 1) % round
 
@@ -309,7 +311,8 @@ module _ (instance : Instance) (caller : ℕ) (history : List Entry) (l0 : Local
       ∙ ap (λ ws. record { caller = caller; number = slice_index ws 0; op = slice_range ws 1 145 }) ended.words
       ∙ ap (λ o. record { caller = caller; number = number; op = o }) (take_all 144 op enough)
 
-  -- after the link the history has the entry at its end
+  -- after the link the history has the entry at its end. `end`: the caller's front is the end; `tickets`: the own entries after the link are those of
+  -- the history with the entry.
   linked_history : history_of instance.base.place (made instance caller s l link).locals ≡ history ++ entry ∷ []
   linked_history =
       let place = instance.base.place in

@@ -74,7 +74,8 @@ module _ (instance : Instance) (caller : ℕ) (history : List Entry) (l0 : Local
   back_off r n l' can is own down =
       step instance caller s l (BackOff r) history history here can (stay instance caller _ l' history (stepped instance caller s l l' (BackOff r) history here can is own) down)
 
-  -- some run puts down the first thing, the shared right. `then_`: in any local state without a shared right it is put down.
+  -- from any local state since `l0` (`PutDown 0`) some run puts down the first of the four things, the shared right (`PutDown 1`). `then_`: in any
+  -- local state without a shared right it is put down.
   put_shared : PutDown 0 l0 l → Reached instance caller history s (λ _ l'. PutDown 1 l0 l')
   put_shared down =
       let then_ = λ (l' : Local) (same : Same l0 l') (none : l'.shared ≡ None). (let d : PutDown 1 l0 l' = record {
@@ -97,7 +98,8 @@ module _ (instance : Instance) (caller : ℕ) (history : List Entry) (l0 : Local
             (then_ (unshared l) (record { own = down.same.own; cells = down.same.cells; reads = down.same.reads }) refl))
       ]
 
-  -- from a state in which the first thing is put down, some run puts down the second, the passer's mark. `none`: there is no shared right.
+  -- where the first of the four things was put down since the local state `l0` (`PutDown 1`), some run puts down the second, the passer's mark
+  -- (`PutDown 2`). `none`: there is no shared right.
   put_passer : PutDown 1 l0 l → Reached instance caller history s (λ _ l'. PutDown 2 l0 l')
   put_passer down =
       let none = down.shared (omega arith) in
@@ -122,7 +124,8 @@ module _ (instance : Instance) (caller : ℕ) (history : List Entry) (l0 : Local
             (then_ (unpassed l) (record { own = down.same.own; cells = down.same.cells; reads = down.same.reads }) none refl))
       ]
 
-  -- from a state in which the first two things are put down, some run puts down the third, the downgraded right
+  -- where the first two of the four things were put down since the local state `l0` (`PutDown 2`), some run puts down the third, the downgraded right
+  -- (`PutDown 3`)
   put_downgraded : PutDown 2 l0 l → Reached instance caller history s (λ _ l'. PutDown 3 l0 l')
   put_downgraded down =
       let shared = down.shared (omega arith) in
@@ -146,8 +149,8 @@ module _ (instance : Instance) (caller : ℕ) (history : List Entry) (l0 : Local
             (then_ (ungiven l) (record { own = down.same.own; cells = down.same.cells; reads = down.same.reads }) shared passer refl))
       ]
 
-  -- from a state in which the first three things are put down, some run puts down the fourth, the win: DUR is raised by the code that won, and the
-  -- win retired. `l1` is the local state after the raise, `l2` the one after the retirement.
+  -- where the first three of the four things were put down since the local state `l0` (`PutDown 3`), some run puts down the fourth, the win (`PutDown
+  -- 4`): DUR is raised by the code that won, and the win retired. `l1` is the local state after the raise, `l2` the one after the retirement.
   put_won : PutDown 3 l0 l → Reached instance caller history s (λ _ l'. PutDown 4 l0 l')
   put_won down =
       let shared = down.shared (omega arith) in

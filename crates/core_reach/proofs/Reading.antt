@@ -190,7 +190,7 @@ module _ (instance : Instance) (s : State) (caller : ℕ) (l : Local) (op : List
   abbrev read : SeenRead
   read = record { place = root_place_of callers cur; op = op; reply = reply_after instance (history_in instance s3) (root_place_of callers cur) op; before = length l3.answered + length (answers_below instance (history_in instance s3) (root_place_of callers cur) (unanswered l3)) }
 
-  -- the reply is that of the history that the state after it has
+  -- the reply is that of the history that the state after it has: the invariant says so of the caller's last acknowledged read
   replied : read.reply ≡ reply_after instance (history_in instance s4) read.place op
   replied =
       ((law4.answers.each caller l4 there4).reads (length l.seen_reads) read (slice_get-last l.seen_reads read)).reply

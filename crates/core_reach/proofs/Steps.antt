@@ -57,8 +57,8 @@ module _ (instance : Instance) (caller : ℕ) where
   pub history_same : (history : List Entry) (s : State) (l : Local) (here : Here instance caller history s l) → here.law.history ≡ history
   history_same history s l here = sym (history_is instance.base.place here.law.history s.locals here.law.tickets.merged) ∙ here.of_history
 
-  -- a change of the caller's local state from `l` to `l'` leaves the history, where the caller's own entries stay. `after`: its entries are still
-  -- those of the history.
+  -- a change of the caller's local state from `l` to `l'` leaves the history, where the caller's own entries stay. `after`: each caller's own entries
+  -- are still its entries of the history.
   history_left : (s : State) (l l' : Local) (history : List Entry) → Here instance caller history s l → l'.own ≡ l.own → history_of instance.base.place (set s.locals caller l') ≡ history
   history_left s l l' history here own =
       let place = instance.base.place in

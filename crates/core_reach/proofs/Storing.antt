@@ -268,7 +268,7 @@ module _ (instance : Instance) (caller : ℕ) (history : List Entry) (l0 : Local
         } in
         step instance caller s l (TryExclusive q) history history here can (stay instance caller _ l1 history here1 storing)
 
-    -- some run leads to a state in which the caller has a replica exclusively, and no other right; no word of the image has to be there yet
+    -- some run leads to a state in which the caller has a replica exclusively, and no other right; none of its words has to be the image's yet
     has_one : Reached instance caller history s (λ _ l'. Storing callers l0 image 0 l')
     has_one = elim (option_cases l.exclusive) [
       -- it holds none: it takes a free one

@@ -53,7 +53,7 @@ answers instance s caller history own run = record {
   rests = run.holds.rests;
 }
 
--- from a lawful state some run answers each linked entry of a caller, and leaves the history as it is
+-- from a lawful state over a base with words, some run answers each linked entry of a caller, and leaves the history as it is
 pub reaches_answers : (instance : Instance) (s : State) (caller : ℕ) (l : Local) → Lawful instance s → slice_get s.locals caller ≡ Some l → 0 < length instance.base.words →
     ReachesAnswers instance s caller (history_in instance s) l.own
 reaches_answers instance s caller l law at some =
@@ -80,9 +80,9 @@ number_small instance s caller l law at numbered =
     let below = law.tickets.below in
     omega (arith, short, own, mine, below, numbered)
 
--- some run answers an update: the caller is settled, its cells are opened, and the entry is written into cell `j`, linked and answered. `x` is the
--- entry with its ticket, `longer` the history with it. `idle`: cell `j` may be written; `same_number`: the number written is still the caller's next
--- one; `all`: each of its entries is answered before the link.
+-- from a lawful state with a cell and a ticket for it (`room`), some run answers an update: the caller is settled, its cells are opened, and the
+-- entry is written into cell `j`, linked and answered. `x` is the entry with its ticket, `longer` the history with it. `idle`: cell `j` may be
+-- written; `same_number`: the number written is still the caller's next one; `all`: each of its entries is answered before the link.
 pub reaches_update : (instance : Instance) (s : State) (caller : ℕ) (l : Local) (op : List ℕ) → Lawful instance s → slice_get s.locals caller ≡ Some l → HasCellAndTicket instance s l →
     0 < length instance.base.words → slot_number caller instance.base.words ≤ instance.base.place → AreOpWords op → ReachesUpdate instance s caller l op
 reaches_update instance s caller l op law at room some numbered op_words =
@@ -111,8 +111,9 @@ reaches_update instance s caller l op law at room some numbered op_words =
     andthen instance caller s3 longer longer (links instance caller history l1 j room.within number op op_words.long s3 l3 here3 ended same_number room.ticket all) (λ s4 l4 here4 linked.
     is_answered instance caller longer own s4 l4 here4 (linked ∙ ap (λ (xs : List Linked). xs ++ x ∷ []) before) some))))))
 
--- from a state that a run reaches from the opening one, some run answers an update of any caller, where there is a further ticket. It takes cell 0,
--- which has no ticket, or one of the caller's own entries, and so one of the history (`known`).
+-- from a state that a run reaches from the opening one, over a base at its place whose numbers are at most that place, some run answers an update of
+-- any caller, where there is a further ticket. It takes cell 0, which has no ticket, or one of the caller's own entries (`knows`), and so one of the
+-- history (`known`).
 pub reaches_every : (instance : Instance) (events : List Event) (s : State) (caller : ℕ) (l : Local) (op : List ℕ) → 1 ≤ instance.callers → instance.callers ≤ 8 → instance.base.place ≤ 2 ^ 40 →
     place_of instance.base.words ≡ instance.base.place → 0 < length instance.base.words → ((c : ℕ) → c < 8 → slot_number c instance.base.words ≤ instance.base.place) →
     Run instance (opening_state instance.callers instance.base) events s → slice_get s.locals caller ≡ Some l → next_ticket instance s < 2 ^ 40 → AreOpWords op → ReachesUpdate instance s caller l op
