@@ -57,7 +57,7 @@ pub record Unneeded (l0 : Local) (i : ℕ) (s : State) (l : Local) : Type 0 wher
 module _ (instance : Instance) (caller : ℕ) (history : List Entry) (l0 : Local) where
   -- caller `i` takes its protection back, after each caller before it did
   module _ (i : ℕ) (s : State) (l : Local) (below : i < instance.callers) (here : Here instance caller history s l) (unneeded : Unneeded l0 i s l) where
-    -- some local state is that of caller `i`
+    -- the local state of caller `i`, with the proof that it is
     abbrev other : (m : Local) × (slice_get s.locals i ≡ Some m)
     other = item_below s.locals i (omega (arith, below, here.law.shape.count))
 
@@ -81,7 +81,7 @@ module _ (instance : Instance) (caller : ℕ) (history : List Entry) (l0 : Local
     is_i : m.number ≡ i
     is_i = (here.law.shape.each i m other.1).number
 
-    -- after the step the first i + 1 callers need no cell
+    -- after caller `i` took its protection back, the first `i + 1` callers need no cell
     none_freed : NeedNone (i + 1) freed_state.words
     none_freed d less =
         elim (cases_eq d i) [
@@ -90,12 +90,14 @@ module _ (instance : Instance) (caller : ℕ) (history : List Entry) (l0 : Local
           | inr ne ↦ get_or-set_other s.words (need_at m.number) (need_at d) max_word 0 (λ e. ne (omega (arith, e, is_i))) ∙ unneeded.none d (omega arith)
         ]
 
+    -- where caller `i` has a protection
     module _ (protected : IsProtected m.protection) where
       -- the state after caller `i` took its protection back is lawful and has the same history; the local state of caller `i` is `freed`
       here_freed : Here instance i history freed_state freed
       here_freed = stepped instance i s m freed Unprotect history here_other protected refl refl
 
-      -- the local state that the caller has after the step of caller i, which may be the caller itself
+      -- after caller `i` took its protection back, the caller, which may be caller `i` itself, has a local state with the entries, answers, cells and
+      -- code last seen in CUR of `l0`
       caller_then : (l' : Local) × Here instance caller history freed_state l' × Quiet l0 l'
       caller_then =
           elim (cases_eq caller i) [
@@ -148,8 +150,8 @@ module _ (instance : Instance) (caller : ℕ) (history : List Entry) (l0 : Local
   all_unprotected : (s : State) (l : Local) → Here instance caller history s l → Unneeded l0 0 s l → Reached instance caller history s (Unneeded l0 instance.callers)
   all_unprotected s l here unneeded = each_of instance caller (Unneeded l0) history instance.callers one_unprotected instance.callers 0 (omega arith) s l here unneeded
 
--- no caller needs a cell, and the caller scans: caller `i` is the next to scan, and the scan's bound is `lower` or above. Entries, answers, cells and
--- code of CUR are those of `l0`.
+-- no caller needs a cell, and the caller scans: caller `i` is the next to scan, and the scan's bound is `lower` or above. The caller has the entries,
+-- answers, cells and code last seen in CUR of `l0`.
 pub record Scanning (callers : ℕ) (l0 : Local) (lower i : ℕ) (s : State) (l : Local) : Type 0 where
   pub quiet : Quiet l0 l
   pub none : NeedNone callers s.words
@@ -158,7 +160,8 @@ pub record Scanning (callers : ℕ) (l0 : Local) (lower i : ℕ) (s : State) (l 
   pub next : scan.next ≡ i
   pub bound : lower ≤ scan.bound
 
--- no caller needs a cell, the caller scans nothing, and has seen FREE at `lower` or above. Entries, answers, cells and code of CUR are those of `l0`.
+-- no caller needs a cell, the caller scans nothing, and has seen FREE at `lower` or above. It has the entries, answers, cells and code last seen in
+-- CUR of `l0`.
 pub record Swept (callers : ℕ) (l0 : Local) (lower : ℕ) (s : State) (l : Local) : Type 0 where
   pub quiet : Quiet l0 l
   pub none : NeedNone callers s.words
@@ -241,7 +244,7 @@ module _ (instance : Instance) (caller : ℕ) (history : List Entry) (l0 : Local
             (record { quiet = unneeded.quiet; none = unneeded.none; scan = sc; is = stands.1; next = refl; bound = omega arith }))
       ]
 
-  -- a new scan opens the tickets below `place`, at or above which the caller saw CUR
+  -- a new scan opens the tickets below `place`, where the code last seen in CUR has `place` or a later place
   module _ (place : ℕ) (seen : place ≤ root_place_of instance.callers l0.seen_cur) (word : place ≤ max_word) where
     -- from a state in which the caller scans nothing, some run raises LOW to `place`, begins a scan (`l1`), and ends it with FREE at `place` or above
     new_scan : (s : State) (l : Local) → Here instance caller history s l → Swept instance.callers l0 0 s l → Reached instance caller history s (Swept instance.callers l0 place)

@@ -82,7 +82,7 @@ module _ (instance : Instance) (s : State) (caller : ℕ) (l : Local) (op : List
   law1 : Lawful instance s1
   law1 = keeps instance caller s l LoadCur law makes1
 
-  -- the load leaves the code in CUR
+  -- after the load CUR has the same code
   cur1 : slice_index s1.words cur_at ≡ cur
   cur1 = get_or-set_same s.words cur_at cur 0 (omega (arith, law.shape.long))
 
@@ -118,7 +118,7 @@ module _ (instance : Instance) (s : State) (caller : ℕ) (l : Local) (op : List
   there2 : slice_get s2.locals caller ≡ Some l2
   there2 = there instance caller s1 l1 (TryShared r) (there instance caller s l LoadCur at) ∙ ap (λ b. Some (if b then shared_by r l1 word else passing callers r l1 word)) (lt-ltb word exclusive_mark free)
 
-  -- the try leaves the code in CUR
+  -- after the try CUR has the same code
   cur2 : slice_index s2.words cur_at ≡ cur
   cur2 = get_or-set_other s1.words (lock_at callers r) cur_at _ 0 (λ e. absurd (omega (arith, e))) ∙ cur1
 

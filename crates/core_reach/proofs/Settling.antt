@@ -96,7 +96,7 @@ module _ (instance : Instance) (caller : ℕ) (history : List Entry) (l0 : Local
     here_seen : Here instance caller history seen_state seen
     here_seen = stepped instance caller s l seen LoadCur history here tt refl refl
 
-    -- the load leaves the code in CUR
+    -- after the load CUR has the same code
     still_cur : slice_index seen_state.words cur_at ≡ cur
     still_cur = get_or-set_same s.words cur_at cur 0 (omega (arith, here.law.shape.long))
 
@@ -134,7 +134,8 @@ module _ (instance : Instance) (caller : ℕ) (history : List Entry) (l0 : Local
       here_back : Here instance caller history (made instance caller raised_state raised back_off) back
       here_back = stepped instance caller raised_state raised back back_off history here_raised can_back_off (backed_off_given raised given.replica given.shared given.passer) refl
 
-      -- some run of three steps, the load of CUR, the raise and the backing off, settles the caller
+      -- some run of three steps, the load of CUR, the raise and the backing off, leads to a state in which each of the caller's entries is answered,
+      -- and it holds no replica (`Settled`)
       found_past : Reached instance caller history s (λ _ l'. Settled instance end_ l0 l')
       found_past =
           step instance caller s l LoadCur history history here tt
@@ -214,7 +215,8 @@ module _ (instance : Instance) (caller : ℕ) (history : List Entry) (l0 : Local
       past_code : end_ ≤ root_place_of callers code
       past_code = omega (arith, code_place callers end_ given.replica given.small)
 
-      -- some run of four steps, the load of CUR, the publication, the raise and the retirement, settles the caller
+      -- some run of four steps, the load of CUR, the publication, the raise and the retirement, leads to a state in which each of the caller's
+      -- entries is answered, and it holds no replica (`Settled`)
       published_past : Reached instance caller history s (λ _ l'. Settled instance end_ l0 l')
       published_past =
           step instance caller s l LoadCur history history here tt
@@ -228,7 +230,8 @@ module _ (instance : Instance) (caller : ℕ) (history : List Entry) (l0 : Local
             seen = past_code;
           })))))
 
-    -- some run settles a caller that has a replica downgraded at the history's end, whatever the place of CUR
+    -- whatever the place of CUR, some run of a caller that has a replica downgraded at the history's end leads to a state in which each of the
+    -- caller's entries is answered, and it holds no replica (`Settled`)
     settled_then : Reached instance caller history s (λ _ l'. Settled instance end_ l0 l')
     settled_then = elim (cases_lt (root_place_of callers cur) end_) [ inl not_past ↦ published_past not_past | inr past ↦ found_past past ]
 
