@@ -1,5 +1,5 @@
--- Cells are opened: each caller takes its protection back, and one that saw CUR at a place closes the tickets below it, scans what the callers need, which
--- is nothing, and raises FREE to it.
+-- Cells are opened: each caller takes its protection back, and one that saw CUR at a place closes the tickets below it, scans what the callers need,
+-- which is nothing, and raises FREE to it.
 use Rattle.std.proofs.Common.{◌≡◌, ◌∙◌, ◌+◌, ◌-◌, ◌<◌, ◌≤◌, ◌⊎◌, inl, inr, IsNone, ℕ, List, Option, None, Some, set, slice_index, ap, refl, sym, subst, arith}
 use Rattle.std.proofs.lemmas.Bool.{cases_eq}
 use Rattle.std.proofs.lemmas.List.{get_or-set_other, get_or-set_same, set-get_or}

@@ -1,5 +1,5 @@
--- A caller publishes a replica at the history's end, or finds one published, and raises DUR by its code: then each of its entries is answered. It holds
--- no replica then.
+-- A caller publishes a replica at the history's end, or finds one published, and raises DUR by its code: then each of its entries is answered. It
+-- holds no replica then.
 use Rattle.std.proofs.Common.{◌≡◌, ◌∙◌, ◌+◌, ◌-◌, ◌<◌, ◌≤◌, inl, inr, IsNone, ℕ, max, false, cond, List, [], ◌∷◌, ◌++◌, Option, None, Some, length, map, slice_index, ap, refl, sym, subst, arith, option_map}
 use Rattle.std.proofs.lemmas.Bool.{cases_lt, eq-eqb, lt-ltb}
 use Rattle.std.proofs.lemmas.List.{append-nil, get_or-set_same, length-append, length-map, length-take, same_lists}

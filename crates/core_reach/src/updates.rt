@@ -31,7 +31,8 @@ pub fn updates_can_be_answered()
 {}
 
 /// In each state `s` that a run of `events` from the opening reaches, over any object with a lawful base, some run answers an update of any caller,
-/// of the words `op` of any operation, as long as there is a further ticket. There are 1 to 8 callers; `l` is the caller's local state in `s`.
+/// of the words `op` of any operation, as long as there is a further ticket. There are 1 to 8 callers. `instance` has their number, the base, and
+/// what the object's operations do; `l` is the caller's local state in `s`.
 pub fn every_update_can_be_answered<O: Object>(object: &O, base: &Base)
     requires { LawfulBase (O.line_count object.now) (O.lawful object.now) base.now }
     ensures { (callers : ℕ) (events : _) (s : State) (caller : ℕ) (l : _) (op : List ℕ) →
