@@ -28,19 +28,19 @@ use Rattle.cx_core.specs.declared.local.Cell.{Cell}
 use Rattle.cx_core.specs.declared.local.Linked.{Linked}
 use Rattle.cx_core.specs.declared.local.Local.{Local}
 
--- a caller with the entries and answers of another local state, whose cell may be written, and has the first i words of these
+-- `l` has the entries and answers of `l0`; its cell `j` may be written, and has the first `i` words of `ws`
 pub record Writing (l0 : Local) (j : ℕ) (ws : List ℕ) (i : ℕ) (l : Local) : Type 0 where
   pub own : l.own ≡ l0.own
   pub answered : l.answered ≡ l0.answered
   pub idle : IsIdle l j
   pub written : (k : ℕ) → k < i → slice_index (cell_of l j).words k ≡ slice_index ws k
 
--- a cell that is idle stays so as more is open
+-- a cell that may be written where FREE is `a` may be written where FREE is `b`, which is not below `a`; `o` is the cell's ticket, if any
 pub idle_up : (a b : ℕ) (o : Option ℕ) → a ≤ b → IsIdleAt a o → IsIdleAt b o
 idle_up a b None up idle = tt
 idle_up a b (Some t) up idle = omega arith
 
--- a word of the entry is written into the cell
+-- word `i` of the entry `ws` is written into the caller's cell `j`, which has the words before it
 module _ (instance : Instance) (caller : ℕ) (history : List Entry) (l0 : Local) (j : ℕ) (small : j < 16) (ws : List ℕ) (fit : Words 145 ws) (i : ℕ) (s : State) (l : Local) (below : i < 145)
     (here : Here instance caller history s l) (writing : Writing l0 j ws i l) where
   -- word i of the entry is written into cell j
@@ -55,15 +55,19 @@ module _ (instance : Instance) (caller : ℕ) (history : List Entry) (l0 : Local
   abbrev put_cell : Cell
   put_cell = record (cell_of l j) { words = set (cell_of l j).words i (slice_index ws i); ticket = None }
 
+  -- the word may be written: the cell is idle
   can_put : Guard instance (scene_of instance s) put l
   can_put = (small, below, writing.idle, Words-at 145 ws i fit)
 
+  -- the state after word `i` is written is lawful and has the same history; the caller's local state there is `put_local`
   here_put : Here instance caller history (made instance caller s l put) put_local
   here_put = stepped instance caller s l put_local put history here can_put refl refl
 
+  -- the caller's cell `j` after word `i` is written is `put_cell`
   is_put : cell_of put_local j ≡ put_cell
   is_put = get_or-set_same l.cells j put_cell _ (omega (arith, small, (here.law.shape.each caller l here.at).cells))
 
+  -- after word `i` is written, the first `i + 1` words of cell `j` are those of the entry
   word_put : (k : ℕ) → k < i + 1 → slice_index (cell_of put_local j).words k ≡ slice_index ws k
   word_put k less =
       let shape = here.law.shape.each caller l here.at in
@@ -74,6 +78,7 @@ module _ (instance : Instance) (caller : ℕ) (history : List Entry) (l0 : Local
         | inr ne ↦ get_or-set_other (cell_of l j).words i k (slice_index ws i) 0 ne ∙ writing.written k (omega arith)
       ]
 
+  -- some run of one step writes word `i` of the entry into cell `j`
   word_written : Reached instance caller history s (λ _ l'. Writing l0 j ws (i + 1) l')
   word_written = step instance caller s l put history history here can_put (stay instance caller _ put_local history here_put (record {
     own = writing.own;
@@ -89,22 +94,26 @@ cell_written instance caller history s l here j small idle ws fit =
     each_of instance caller (λ i _ l'. Writing l j ws i l') history 145 (word_written instance caller history l j small ws fit) 145 0 refl s l here
     (record { own = refl; answered = refl; idle = idle; written = λ k below. absurd (omega arith) })
 
--- tickets of one slot are a round apart
+-- where `t` and `u` have the same remainder by `w`, and `t` is below `u`, they are at least `w` apart. For tickets, with `w` slots: those of one slot
+-- are a round apart. `a` and `b` give `t` and `u` by quotient and remainder, `rows` compares the quotients times `w`.
 round_apart : (t u w : ℕ) → 0 < w → t % w ≡ u % w → t < u → t + w ≤ u
 round_apart t u w some same less =
     let a = div-add-mod' t w in
     let b = div-add-mod' u w in
     elim (cases_lt (t / w) (u / w)) [
+      -- the quotient of `t` is below that of `u`
       | inl up ↦ (
           let rows = mul-le (t / w + 1) w (u / w) w (omega arith) (omega arith) in
           let one : (t / w + 1) * w ≡ t / w * w + w = omega arith in
           omega (arith, a, b, rows, one, same))
+      -- the quotient of `t` is not below that of `u`: then `t` is not below `u`
       | inr down ↦ (
           let rows = mul-le (u / w) w (t / w) w down (omega arith) in
           absurd (omega (arith, a, b, rows, same)))
     ]
 
--- a ticket a round before has its slot
+-- `u - w` has the same remainder by `w` as `u`. For tickets, with `w` slots: the one a round before has the same slot. `one`: the quotient of `u` is
+-- above 0; `is`: `u - w` has a quotient less by 1 and the same remainder.
 round_before : (u w : ℕ) → 0 < w → w ≤ u → (u - w) % w ≡ u % w
 round_before u w some enough =
     let a = div-add-mod' u w in
@@ -114,15 +123,18 @@ round_before u w some enough =
     let is : u - w ≡ (u / w - 1) * w + u % w = omega arith in
     ap (λ n. n % w) is ∙ mod-mul-add (u / w - 1) w (u % w) r
 
--- what the words of link slots say of the end of the history
+-- what the words of link slots say of the end of the history, where each linked entry is of one of the callers (`callers_of`)
 module _ (instance : Instance) (history : List Entry) (callers_of : (ticket : ℕ) (entry : Entry) → IsLinked instance.base.place history ticket entry → entry.caller < instance.callers) (some : 1 ≤ instance.callers) where
+  -- the number of link slots
   abbrev q : ℕ
   q = cell_count instance.callers
 
+  -- the end of the history: the ticket after its last one
   abbrev end_ : ℕ
   end_ = instance.base.place + length history
 
-  -- the word of the last ticket's slot raises a front to the end
+  -- a caller that finds the link word of the last ticket's slot has its front at the end then, where it was not above the end before. `Never`: no
+  -- linked ticket has that slot, so the front was at the end already. `Names`: the word names the last ticket.
   front_to_end : (front word : ℕ) → instance.base.place ≤ front → front ≤ end_ → LinkWord instance history ((end_ - 1) % q) word → raised_front instance.callers front word ≡ end_
   front_to_end front word from to (Never none zero) =
       elim (cases_lt front end_) [
@@ -141,7 +153,8 @@ module _ (instance : Instance) (history : List Entry) (callers_of : (ticket : �
       let not_zero : word ≢ 0 = λ e. (let nothing : ticket * (16 * instance.callers) + (16 * entry.caller + j) + 1 ≡ 0 = sym is ∙ e in omega arith) in
       ap (λ b. cond b front (max front (link_ticket_of instance.callers word + 1))) (ne_eqb word 0 not_zero) ∙ omega (arith, is_ticket, within, most)
 
-  -- the word of the end's slot shows that it is open
+  -- the link word of the end's slot shows that the next ticket can be linked there: it is 0, or names the ticket a round before the end. `round`: the
+  -- ticket named is a round or more before the end; `most`: the ticket a round before the end is not above the one named.
   shows_open : (word : ℕ) → LinkWord instance history (end_ % q) word → (word ≡ 0) ⊎ ((0 < word) × (link_ticket_of instance.callers word + q ≡ end_))
   shows_open word (Never none zero) = inl zero
   shows_open word (Names ticket entry j greatest below is) =
@@ -154,7 +167,8 @@ module _ (instance : Instance) (history : List Entry) (callers_of : (ticket : �
       let is_ticket : link_ticket_of instance.callers word ≡ ticket = ap (link_ticket_of instance.callers) is ∙ code_ticket instance.callers ticket (16 * entry.caller + j) (omega arith) in
       inr (omega (arith, is), omega (arith, is_ticket))
 
--- a caller at the end of the history, whose slot it saw open
+-- `l` has the entries and answers of `l0`; its cell `j` may be written and has the words `ws`; its front is the history's end; and the link slot it
+-- last looked at is that of the end, was seen open, and still has the word that was seen
 pub record AtEnd (instance : Instance) (l0 : Local) (j : ℕ) (ws : List ℕ) (end_ : ℕ) (s : State) (l : Local) : Type 0 where
   pub own : l.own ≡ l0.own
   pub answered : l.answered ≡ l0.answered
@@ -164,59 +178,76 @@ pub record AtEnd (instance : Instance) (l0 : Local) (j : ℕ) (ws : List ℕ) (e
   pub open_ : ShowsOpen instance.callers l.seen_slot l.front
   pub found : slice_index s.words (link_at instance.callers (l.front % cell_count instance.callers)) ≡ seen_word l.seen_slot
 
--- the last ticket's slot is looked at, and then that of the end
+-- the caller looks at the link slot of the ticket before the history's end, and then at that of the ticket there, which is linked next
 module _ (instance : Instance) (caller : ℕ) (history : List Entry) (l0 : Local) (j : ℕ) (small : j < 16) (ws : List ℕ) (fit : Words 145 ws) (s : State) (l : Local)
     (here : Here instance caller history s l) (writing : Writing l0 j ws 145 l) where
+  -- the local state that a look at this link slot makes of `l'` in the state `s'`
   abbrev after_look : State → Local → ℕ → Local
   after_look s' l' slot =
       let found = slice_index s'.words (link_at instance.callers slot) in
       record l' { seen_slot = Some (record { slot = slot; word = found }); front = raised_front instance.callers l'.front found; steps = one_more l'.steps }
 
+  -- the end of the history: the ticket that is linked next
   abbrev last_end : ℕ
   last_end = instance.base.place + length history
 
+  -- the number of link slots
   abbrev round : ℕ
   round = cell_count instance.callers
 
+  -- there is a link slot
   many : 0 < round
   many = omega (arith, here.law.shape.some)
 
+  -- the link slot of the ticket before the history's end
   abbrev last_slot : ℕ
   last_slot = (last_end - 1) % round
 
+  -- the link slot of the ticket that is linked next
   abbrev next_slot : ℕ
   next_slot = last_end % round
 
+  -- the caller's local state after the look at the last ticket's slot
   abbrev looked : Local
   looked = after_look s l last_slot
 
+  -- the state after the look at the last ticket's slot
   abbrev looked_state : State
   looked_state = made instance caller s l (Look last_slot)
 
+  -- the look at the last ticket's slot is allowed: there is that slot
   can_look : Guard instance (scene_of instance s) (Look last_slot) l
   can_look = mod_below (last_end - 1) round many
 
+  -- the state after the look at the last ticket's slot is lawful and has the same history; the caller's local state there is `looked`
   here_looked : Here instance caller history looked_state looked
   here_looked = stepped instance caller s l looked (Look last_slot) history here can_look refl refl
 
+  -- the caller's local state after the look at the next ticket's slot
   abbrev ready : Local
   ready = after_look looked_state looked next_slot
 
+  -- the state after the look at the next ticket's slot
   abbrev ready_state : State
   ready_state = made instance caller looked_state looked (Look next_slot)
 
+  -- the look at the next ticket's slot is allowed: there is that slot
   can_look_next : Guard instance (scene_of instance looked_state) (Look next_slot) looked
   can_look_next = mod_below last_end round many
 
+  -- the state after the look at the next ticket's slot is lawful and has the same history; the caller's local state there is `ready`
   here_ready : Here instance caller history ready_state ready
   here_ready = stepped instance caller looked_state looked ready (Look next_slot) history here_looked can_look_next refl refl
 
+  -- the words of cell `j` are those of the entry
   same_words : (cell_of l j).words ≡ ws
   same_words =
       let shape = here.law.shape.each caller l here.at in
       let long = (shape.each j (cell_of l j) (cell_there caller l j shape small)).words in
       ext_get_or 0 (cell_of l j).words ws (long ∙ sym fit.long) (λ k below. writing.written k (omega arith))
 
+  -- after both looks the caller's front is the end, and the slot there was seen open. `first`: the first look raises the front to the end. `second`:
+  -- the second look leaves it there. `kept`: the slot has the word that the second look saw. `same`: the invariant's history is this one.
   made_ready : AtEnd instance l0 j ws last_end ready_state ready
   made_ready =
       let same = λ (s' : State) (l' : Local) (h : Here instance caller history s' l'). (let e : h.law.history ≡ history = history_same instance caller history s' l' h in e) in
@@ -243,13 +274,14 @@ module _ (instance : Instance) (caller : ℕ) (history : List Entry) (l0 : Local
         found = subst (λ t. slice_index ready_state.words (link_at instance.callers (t % round)) ≡ seen_word ready.seen_slot) (sym front) kept;
       }
 
+  -- some run of two looks leads to a state in which the caller's front is the history's end, and the slot there was seen open
   pub looks : Reached instance caller history s (AtEnd instance l0 j ws last_end)
   looks =
       step instance caller s l (Look last_slot) history history here can_look
       (step instance caller looked_state looked (Look next_slot) history history here_looked can_look_next
       (stay instance caller _ ready history here_ready made_ready))
 
--- the cell is linked
+-- the caller links the entry in its cell `j`, which has its next number, at the end of the history; each of its entries is answered (`all`)
 module _ (instance : Instance) (caller : ℕ) (history : List Entry) (l0 : Local) (j : ℕ) (small : j < 16) (number : ℕ) (op : List ℕ) (op_long : length op ≡ 144) (s : State) (l : Local)
     (here : Here instance caller history s l) (ended : AtEnd instance l0 j (number ∷ op) (instance.base.place + length history) s l)
     (numbered : number ≡ next_number instance.base l) (further : instance.base.place + length history < 2 ^ 40) (all : length l.answered ≡ length l.own) where
@@ -261,14 +293,17 @@ module _ (instance : Instance) (caller : ℕ) (history : List Entry) (l0 : Local
   abbrev link : Kind
   link = Link j
 
+  -- the link is allowed: the cell is idle, has the caller's next number, and its slot was seen open
   can_link : Guard instance (scene_of instance s) link l
   can_link = (small, ended.idle, ap (λ ws. slice_index ws 0) ended.words ∙ numbered, subst (λ t. t < 2 ^ 40) (sym ended.front) further, ended.open_, all)
 
+  -- the link wins, since the slot still has the word that was seen
   is_linked : local_after instance (scene_of instance s) link l ≡ linked l j
   is_linked =
       let word = slice_index s.words (link_at instance.callers (l.front % cell_count instance.callers)) in
       ap (λ b. cond b (linked l j) (lost instance.callers l word)) (eq-eqb word (seen_word l.seen_slot) ended.found)
 
+  -- what stands in cell `j` is the entry `entry`
   is_entry : entry_in l j ≡ entry
   is_entry =
       let enough : length op ≤ 144 = omega arith in
@@ -276,7 +311,8 @@ module _ (instance : Instance) (caller : ℕ) (history : List Entry) (l0 : Local
       ∙ ap (λ ws. record { caller = caller; number = slice_index ws 0; op = slice_range ws 1 145 }) ended.words
       ∙ ap (λ o. record { caller = caller; number = number; op = o }) (take_all 144 op enough)
 
-  -- after the link the history has the entry at its end
+  -- after the link the history has the entry at its end. `end`: the caller's front is the end; `tickets`: the own entries after the link are those of
+  -- the history with the entry.
   linked_history : history_of instance.base.place (made instance caller s l link).locals ≡ history ++ entry ∷ []
   linked_history =
       let place = instance.base.place in
@@ -299,9 +335,11 @@ module _ (instance : Instance) (caller : ℕ) (history : List Entry) (l0 : Local
     of_history = linked_history;
   }
 
+  -- the entry with the ticket at which it is linked, the history's end
   abbrev at_end : Linked
   at_end = record { ticket = instance.base.place + length history; entry = entry }
 
+  -- some run of one step, the link, leads to a history with the entry at its end; the caller's own entries then end with it
   pub links : Reached instance caller (history ++ entry ∷ []) s (λ _ l'. l'.own ≡ l0.own ++ at_end ∷ [])
   links = step instance caller s l link (history ++ entry ∷ []) history here can_link (stay instance caller _ (linked l j) (history ++ entry ∷ []) here_linked (
       ap (λ t. l.own ++ record { ticket = t; entry = entry_in l j } ∷ []) ended.front

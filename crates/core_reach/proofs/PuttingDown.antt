@@ -19,13 +19,14 @@ use Rattle.cx_core.specs.declared.local.HeldDowngraded.{HeldDowngraded}
 use Rattle.cx_core.specs.declared.local.HeldShared.{HeldShared}
 use Rattle.cx_core.specs.declared.local.Local.{Local}
 
--- a caller with the entries, the cells and the reads of another local state
+-- `l'` has the entries, the cells and the acknowledged reads of `l`
 pub record Same (l l' : Local) : Type 0 where
   pub own : l'.own ≡ l.own
   pub cells : l'.cells ≡ l.cells
   pub reads : l'.seen_reads ≡ l.seen_reads
 
--- of its shared right, its passer's mark, its downgraded right and its win the first n are put down
+-- of four things `l'` has put down the first `n`: 1 the shared right, 2 the passer's mark, 3 the downgraded right, 4 the win. Its entries, cells and
+-- reads are those of `l`.
 pub record PutDown (n : ℕ) (l l' : Local) : Type 0 where
   pub same : Same l l'
   pub shared : 0 < n → l'.shared ≡ None
@@ -33,40 +34,48 @@ pub record PutDown (n : ℕ) (l l' : Local) : Type 0 where
   pub downgraded : 2 < n → l'.downgraded ≡ None
   pub won : 3 < n → l'.won ≡ None
 
+-- an option is `None`, or `Some x` for some `x`
 pub option_cases : {X : Type 0} (o : Option X) → (o ≡ None) ⊎ ((x : X) × (o ≡ Some x))
 option_cases None = inl refl
 option_cases (Some x) = inr (x, refl)
 
--- the local states after backing off
+-- the local state after the caller backs off from the replica that it holds shared
 abbrev unshared : Local → Local
 unshared l = record l { shared = None; steps = one_more l.steps }
 
+-- the local state after the caller takes its passer's mark back
 abbrev unpassed : Local → Local
 unpassed l = record l { passer = None; steps = one_more l.steps }
 
+-- the local state after the caller backs off from the replica that it has downgraded
 abbrev ungiven : Local → Local
 ungiven l = record l { downgraded = None; steps = one_more l.steps }
 
+-- whether a shared right, if there is one, is on the replica `r`
 abbrev shared_at : ℕ → Option HeldShared → Bool
 shared_at r o = is_at r (option_map (λ (h : HeldShared). h.replica) o)
 
--- with no shared right and no passer's mark it is the downgraded right that ends
+-- where `l` has no shared right and no passer's mark, backing off ends its downgraded right
 pub backed_off_given : (l : Local) (r : ℕ) → l.shared ≡ None → l.passer ≡ None → backed_off r l ≡ record l { downgraded = None; steps = one_more l.steps }
 backed_off_given l r shared passer =
     ap (λ (o : Option HeldShared). cond (shared_at r o) (unshared l) (cond (is_at r l.passer) (unpassed l) (ungiven l))) shared
     ∙ ap (λ (o : Option ℕ). cond (is_at r o) (unpassed l) (ungiven l)) passer
 
+-- `l0` is the caller's local state before it put anything down, `l` the one in the state `s`
 module _ (instance : Instance) (caller : ℕ) (history : List Entry) (l0 : Local) (s : State) (l : Local) (here : Here instance caller history s l) where
   -- a caller's right is on a replica that there is
   below : (r : ℕ) → 0 < rights_on instance.callers r l → r < 2 * instance.callers
   below r some = (here.law.locks.few caller l here.at).below r some
 
-  -- the caller backs off from a replica
+  -- where backing off from the replica `r` is allowed (`can`) and leads to `l'` (`is`), in which the first `n` things are put down (`down`), some run
+  -- leads there
   back_off : (r : ℕ) (n : ℕ) (l' : Local) → Guard instance (scene_of instance s) (BackOff r) l → backed_off r l ≡ l' → l'.own ≡ l.own → PutDown n l0 l' →
       Reached instance caller history s (λ _ l'. PutDown n l0 l')
   back_off r n l' can is own down =
       step instance caller s l (BackOff r) history history here can (stay instance caller _ l' history (stepped instance caller s l l' (BackOff r) history here can is own) down)
 
+  -- from any local state since `l0` (`PutDown 0`) some run puts down the first of the four things, the shared right (`PutDown 1`). `then_`: in any
+  -- local state without a shared right it is put down.
   put_shared : PutDown 0 l0 l → Reached instance caller history s (λ _ l'. PutDown 1 l0 l')
   put_shared down =
       let then_ = λ (l' : Local) (same : Same l0 l') (none : l'.shared ≡ None). (let d : PutDown 1 l0 l' = record {
@@ -77,7 +86,9 @@ module _ (instance : Instance) (caller : ℕ) (history : List Entry) (l0 : Local
         won = λ less. absurd (omega arith);
       } in d) in
       elim (option_cases l.shared) [
+        -- it has no shared right: no step is made
         | inl none ↦ stay instance caller s l history here (then_ l down.same none)
+        -- it holds the replica `r` shared, and backs off
         | inr held ↦ (
             let r = held.0.replica in
             let one = shared_one l held.0 held.1 in
@@ -87,6 +98,8 @@ module _ (instance : Instance) (caller : ℕ) (history : List Entry) (l0 : Local
             (then_ (unshared l) (record { own = down.same.own; cells = down.same.cells; reads = down.same.reads }) refl))
       ]
 
+  -- where the first of the four things was put down since the local state `l0` (`PutDown 1`), some run puts down the second, the passer's mark
+  -- (`PutDown 2`). `none`: there is no shared right.
   put_passer : PutDown 1 l0 l → Reached instance caller history s (λ _ l'. PutDown 2 l0 l')
   put_passer down =
       let none = down.shared (omega arith) in
@@ -98,7 +111,9 @@ module _ (instance : Instance) (caller : ℕ) (history : List Entry) (l0 : Local
         won = λ less. absurd (omega arith);
       } in d) in
       elim (option_cases l.passer) [
+        -- it has no passer's mark: no step is made
         | inl passer ↦ stay instance caller s l history here (then_ l down.same none passer)
+        -- it left a mark on the replica `r`, and takes it back
         | inr held ↦ (
             let r = held.0 in
             let one : is_on r l.passer ≡ 1 = ap (is_on r) held.1 ∙ on_same r r refl in
@@ -109,6 +124,8 @@ module _ (instance : Instance) (caller : ℕ) (history : List Entry) (l0 : Local
             (then_ (unpassed l) (record { own = down.same.own; cells = down.same.cells; reads = down.same.reads }) none refl))
       ]
 
+  -- where the first two of the four things were put down since the local state `l0` (`PutDown 2`), some run puts down the third, the downgraded right
+  -- (`PutDown 3`)
   put_downgraded : PutDown 2 l0 l → Reached instance caller history s (λ _ l'. PutDown 3 l0 l')
   put_downgraded down =
       let shared = down.shared (omega arith) in
@@ -121,7 +138,9 @@ module _ (instance : Instance) (caller : ℕ) (history : List Entry) (l0 : Local
         won = λ less. absurd (omega arith);
       } in d) in
       elim (option_cases l.downgraded) [
+        -- it has no downgraded right: no step is made
         | inl downgraded ↦ stay instance caller s l history here (then_ l down.same shared passer downgraded)
+        -- it has the replica `r` downgraded, and backs off
         | inr held ↦ (
             let r = held.0.replica in
             let one = downgraded_one l held.0 held.1 in
@@ -130,14 +149,17 @@ module _ (instance : Instance) (caller : ℕ) (history : List Entry) (l0 : Local
             (then_ (ungiven l) (record { own = down.same.own; cells = down.same.cells; reads = down.same.reads }) shared passer refl))
       ]
 
-  -- DUR is raised by the code that won, and the win retired
+  -- where the first three of the four things were put down since the local state `l0` (`PutDown 3`), some run puts down the fourth, the win (`PutDown
+  -- 4`): DUR is raised by the code that won, and the win retired. `l1` is the local state after the raise, `l2` the one after the retirement.
   put_won : PutDown 3 l0 l → Reached instance caller history s (λ _ l'. PutDown 4 l0 l')
   put_won down =
       let shared = down.shared (omega arith) in
       let passer = down.passer (omega arith) in
       let downgraded = down.downgraded (omega arith) in
       elim (option_cases l.won) [
+        -- it has no win: no step is made
         | inl none ↦ stay instance caller s l history here (record { same = down.same; shared = λ _. shared; passer = λ _. passer; downgraded = λ _. downgraded; won = λ _. none })
+        -- its win has the code `code`, by which it raises DUR
         | inr held ↦ (
             let code = held.0.code in
             let raise : Kind = Raise code None in
@@ -158,6 +180,8 @@ module _ (instance : Instance) (caller : ℕ) (history : List Entry) (l0 : Local
             step instance caller s l raise history history here can_raise (step instance caller s1 l1 Retire history history here1 can_retire (stay instance caller _ l2 history here2 put)))
       ]
 
+-- whatever a caller holds, some run puts down its shared right, passer's mark, downgraded right and win. It begins with the first 0 of the four put
+-- down (`none`).
 pub puts_down : (instance : Instance) (caller : ℕ) (history : List Entry) (s : State) (l : Local) → Here instance caller history s l → Reached instance caller history s (λ _ l'. PutDown 4 l l')
 puts_down instance caller history s l here =
     let none : PutDown 0 l l = record {

@@ -32,7 +32,8 @@ use Rattle.cx_core.specs.declared.local.Local.{Local}
 use Rattle.cx_core.specs.declared.local.SeenRead.{SeenRead}
 
 module _ (instance : Instance) (caller : ℕ) where
-  -- a replica that is pinned is not held exclusively: its lock word has no exclusive mark
+  -- a replica that CUR pins is not held exclusively: its lock word is below an exclusive mark, since nobody holds it (`none`), and the other rights
+  -- (`claimed`, `passed`) are few
   pinned_free : (s : State) → Lawful instance s → (r : ℕ) → r < 2 * instance.callers → pin instance.callers r (slice_index s.words cur_at) ≡ 1 → slice_index s.words (lock_at instance.callers r) < exclusive_mark
   pinned_free s law r small pinned =
       let word = law.locks.each r small in
@@ -42,10 +43,12 @@ module _ (instance : Instance) (caller : ℕ) where
       let none : total (holds r) s.locals ≡ 0 = none_held (total (holds r) s.locals) word.alone in
       omega (arith, word.counted, parts, claimed, passed, none, pinned, law.shape.few, law.shape.count)
     where
+      -- no caller holds the replica exclusively (`n` is their number), since the pin allows none
       none_held : (n : ℕ) → (0 < n → total (claims instance.callers r) s.locals + pin instance.callers r (slice_index s.words cur_at) ≡ 0) → n ≡ 0
       none_held zero alone = refl
       none_held (suc n) alone = (let all = alone (omega arith) in omega (arith, all, pinned))
 
+-- a caller that has no right (`none`), with the local state `l` in the lawful state `s`, reads: `op` is an operation that only reads
 module _ (instance : Instance) (s : State) (caller : ℕ) (l : Local) (op : List ℕ) (law : Lawful instance s) (at : slice_get s.locals caller ≡ Some l) (none : HoldsNone l) (some : 0 < length instance.base.words) (reads : IsTrue (instance.reads op)) (op_words : Words 144 op) where
   -- the number of callers
   abbrev callers : ℕ
@@ -59,6 +62,7 @@ module _ (instance : Instance) (s : State) (caller : ℕ) (l : Local) (op : List
   abbrev r : ℕ
   r = root_replica_of callers cur
 
+  -- the code in CUR names one of the `2 * callers` replicas
   small : r < 2 * callers
   small = mod_below cur (2 * callers) (omega (arith, law.shape.some))
 
@@ -70,12 +74,15 @@ module _ (instance : Instance) (s : State) (caller : ℕ) (l : Local) (op : List
   abbrev s1 : State
   s1 = made instance caller s l LoadCur
 
+  -- the load of CUR is allowed, and leads from `s` to `s1`
   makes1 : Makes instance (event instance caller LoadCur) s s1
   makes1 = makes instance caller s l LoadCur at tt
 
+  -- the state after the load of CUR is lawful
   law1 : Lawful instance s1
   law1 = keeps instance caller s l LoadCur law makes1
 
+  -- after the load CUR has the same code
   cur1 : slice_index s1.words cur_at ≡ cur
   cur1 = get_or-set_same s.words cur_at cur 0 (omega (arith, law.shape.long))
 
@@ -95,18 +102,23 @@ module _ (instance : Instance) (s : State) (caller : ℕ) (l : Local) (op : List
   abbrev l2 : Local
   l2 = shared_by r l1 word
 
+  -- the caller may try to take the replica shared: it has no right yet
   can_try : Guard instance (scene_of instance s1) (TryShared r) l1
   can_try = rw (none.exclusive, none.shared, none.passer, none.downgraded, none.won) (small, cc, cc, omega arith, refl)
 
+  -- the try to take the replica shared leads from `s1` to `s2`
   makes2 : Makes instance (event instance caller (TryShared r)) s1 s2
   makes2 = makes instance caller s1 l1 (TryShared r) (there instance caller s l LoadCur at) can_try
 
+  -- the state after the replica is taken shared is lawful
   law2 : Lawful instance s2
   law2 = keeps instance caller s1 l1 (TryShared r) law1 makes2
 
+  -- the try succeeds: the caller's local state after it is `l2`, in which it holds the replica shared
   there2 : slice_get s2.locals caller ≡ Some l2
   there2 = there instance caller s1 l1 (TryShared r) (there instance caller s l LoadCur at) ∙ ap (λ b. Some (if b then shared_by r l1 word else passing callers r l1 word)) (lt-ltb word exclusive_mark free)
 
+  -- after the try CUR has the same code
   cur2 : slice_index s2.words cur_at ≡ cur
   cur2 = get_or-set_other s1.words (lock_at callers r) cur_at _ 0 (λ e. absurd (omega (arith, e))) ∙ cur1
 
@@ -126,9 +138,11 @@ module _ (instance : Instance) (s : State) (caller : ℕ) (l : Local) (op : List
   placed : found ≡ root_place_of callers cur
   placed = subst (λ c. vol_word instance s2.words (root_replica_of callers c) 0 ≡ root_place_of callers c) cur2 law2.root.current
 
+  -- the load of the replica's place word leads from `s2` to `s3`
   makes3 : Makes instance (event instance caller (LoadWord r 0 false)) s2 s3
   makes3 = makes instance caller s2 l2 (LoadWord r 0 false) there2 ((small, some, inr refl), λ no. cc)
 
+  -- the caller's local state after the load of the place word is `l3`
   there3 : slice_get s3.locals caller ≡ Some l3
   there3 = there instance caller s2 l2 (LoadWord r 0 false) there2
 
@@ -140,21 +154,27 @@ module _ (instance : Instance) (s : State) (caller : ℕ) (l : Local) (op : List
   abbrev s4 : State
   s4 = made instance caller s3 l3 kind4
 
+  -- what was loaded: address 0, and the word found there
   abbrev here : ℕ × ℕ
   here = (0, found)
 
+  -- what the raise needs to have been loaded: address 0, and the place of the code in CUR
   abbrev wanted : ℕ × ℕ
   wanted = (0, root_place_of callers cur)
 
+  -- what was loaded is what the raise needs
   same_pair : here ≡ wanted
   same_pair = λ i. (0, placed i)
 
+  -- where the flag `b` is set, the list of what was loaded has what the raise needs
   shows : (b : Bool) → b ≡ true → Contains {X = ℕ × ℕ} (if b then here ∷ [] else []) wanted
   shows b is = subst (λ c. Contains {X = ℕ × ℕ} (if c then here ∷ [] else []) wanted) (sym is) (subst (λ w. Contains {X = ℕ × ℕ} (here ∷ []) w) same_pair (0, omega arith, refl))
 
+  -- the raise of DUR, which answers the read, is allowed, and leads from `s3` to `s4`
   makes4 : Makes instance (event instance caller kind4) s3 s4
   makes4 = makes instance caller s3 l3 kind4 there3 (inl refl, (reads, refl, refl, (refl, shows (r == r) (eq-eqb r r refl)), op_words))
 
+  -- the state after the raise is lawful
   law4 : Lawful instance s4
   law4 = keeps instance caller s3 l3 kind4 (keeps instance caller s2 l2 (LoadWord r 0 false) law2 makes3) makes4
 
@@ -162,6 +182,7 @@ module _ (instance : Instance) (s : State) (caller : ℕ) (l : Local) (op : List
   abbrev l4 : Local
   l4 = raised_by instance (scene_of instance s3) cur (Some op) l3
 
+  -- the caller's local state after the raise is `l4`
   there4 : slice_get s4.locals caller ≡ Some l4
   there4 = there instance caller s3 l3 kind4 there3
 
@@ -169,7 +190,7 @@ module _ (instance : Instance) (s : State) (caller : ℕ) (l : Local) (op : List
   abbrev read : SeenRead
   read = record { place = root_place_of callers cur; op = op; reply = reply_after instance (history_in instance s3) (root_place_of callers cur) op; before = length l3.answered + length (answers_below instance (history_in instance s3) (root_place_of callers cur) (unanswered l3)) }
 
-  -- the reply is that of the history that the state after it has
+  -- the reply is that of the history that the state after it has: the invariant says so of the caller's last acknowledged read
   replied : read.reply ≡ reply_after instance (history_in instance s4) read.place op
   replied =
       ((law4.answers.each caller l4 there4).reads (length l.seen_reads) read (slice_get-last l.seen_reads read)).reply
@@ -189,7 +210,7 @@ module _ (instance : Instance) (s : State) (caller : ℕ) (l : Local) (op : List
     reads = refl;
   }
 
--- whatever the caller holds, which it puts down first
+-- whatever a caller holds, some run answers a read of it: the run `first` puts down what it holds, and `then_` reads
 pub reaches_read : (instance : Instance) (s : State) (caller : ℕ) (l : Local) (op : List ℕ) → Lawful instance s → slice_get s.locals caller ≡ Some l → 0 < length instance.base.words →
     IsTrue (instance.reads op) → Words 144 op → ReachesRead instance s caller l op
 reaches_read instance s caller l op law at some reads op_words =

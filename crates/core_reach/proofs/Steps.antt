@@ -16,13 +16,14 @@ use Rattle.cx_core.specs.declared.kinds.Event.{Event}
 use Rattle.cx_core.specs.declared.kinds.Kind.{Kind}
 use Rattle.cx_core.specs.declared.local.Local.{Local}
 
--- a lawful state with this history, in which a caller has this local state
+-- the state `s` is lawful and has this history, and the caller has the local state `l` there
 pub record Here (instance : Instance) (caller : ℕ) (history : List Entry) (s : State) (l : Local) : Type 0 where
   pub law : Lawful instance s
   pub at : slice_get s.locals caller ≡ Some l
   pub of_history : history_of instance.base.place s.locals ≡ history
 
--- some run leads from a state to a lawful one with this history, and `P` holds of that and of the caller's local state there
+-- some run of `events` leads from the state `from` to a lawful one, `to`, with this history, and `P` holds of `to` and of the caller's local state
+-- there
 pub record Reached (instance : Instance) (caller : ℕ) (history : List Entry) (from : State) (P : State → Local → Type 0) : Type 0 where
   pub events : List Event
   pub to : State
@@ -40,11 +41,11 @@ module _ (instance : Instance) (caller : ℕ) where
   abbrev pub made : State → Local → Kind → State
   made s l kind = record { words = words_after instance kind l s.words; locals = set s.locals caller (local_after instance (scene_of instance s) kind l) }
 
-  -- the step is made where its guard holds
+  -- a step is made where its guard holds: it leads from the state `s` to `made s l kind`
   pub makes : (s : State) (l : Local) (kind : Kind) → slice_get s.locals caller ≡ Some l → Guard instance (scene_of instance s) kind l → Makes instance (event kind) s (made s l kind)
   makes s l kind at guard = record { local = l; of_caller = at; guard = guard; words = refl; locals = refl }
 
-  -- the local state that the caller has after its step
+  -- after a step of the caller its local state is the one that the kind of step makes of `l`
   pub there : (s : State) (l : Local) (kind : Kind) → slice_get s.locals caller ≡ Some l → slice_get (made s l kind).locals caller ≡ Some (local_after instance (scene_of instance s) kind l)
   there s l kind at = slice_get-set_same s.locals caller (local_after instance (scene_of instance s) kind l) (slice_get_within s.locals caller l at)
 
@@ -52,11 +53,12 @@ module _ (instance : Instance) (caller : ℕ) where
   pub keeps : (s : State) (l : Local) (kind : Kind) → Lawful instance s → Makes instance (event kind) s (made s l kind) → Lawful instance (made s l kind)
   keeps s l kind law makes_it = run_kept instance s (event kind ∷ []) (made s l kind) law (made s l kind, makes_it, refl)
 
-  -- the history is that of the invariant
+  -- the history that lawfulness names is the one of `Here`
   pub history_same : (history : List Entry) (s : State) (l : Local) (here : Here instance caller history s l) → here.law.history ≡ history
   history_same history s l here = sym (history_is instance.base.place here.law.history s.locals here.law.tickets.merged) ∙ here.of_history
 
-  -- a step that leaves the own list leaves the history
+  -- a change of the caller's local state from `l` to `l'` leaves the history, where the caller's own entries stay. `after`: each caller's own entries
+  -- are still its entries of the history.
   history_left : (s : State) (l l' : Local) (history : List Entry) → Here instance caller history s l → l'.own ≡ l.own → history_of instance.base.place (set s.locals caller l') ≡ history
   history_left s l l' history here own =
       let place = instance.base.place in
@@ -76,12 +78,13 @@ module _ (instance : Instance) (caller : ℕ) where
     of_history = ap (λ (x : Local). history_of instance.base.place (set s.locals caller x)) is ∙ history_left s l l' history here own;
   }
 
--- one run after another
+-- a run from `from` to `mid`, and one from `mid` to `to`, make one run
 pub run_on : (instance : Instance) (from mid to : State) (first second : List Event) → Run instance from first mid → Run instance mid second to → Run instance from (first ++ second) to
 run_on instance from mid to [] second a b = subst (λ s. Run instance s second to) a b
 run_on instance from mid to (e ∷ first) second a b = (a.0, a.1, run_on instance a.0 mid to first second a.2 b)
 
--- a step of any caller before others
+-- where some run reaches `P` for `caller` after a step of caller `d`, some run reaches `P` from the state `s` before that step. `before` is the
+-- history there.
 pub step_by : (instance : Instance) (caller d : ℕ) {P : State → Local → Type 0} (s : State) (m : Local) (kind : Kind) (history before : List Entry) → Here instance d before s m →
     Guard instance (scene_of instance s) kind m → Reached instance caller history (made instance d s m kind) P → Reached instance caller history s P
 step_by instance caller d s m kind history before here guard rest = record {
@@ -94,15 +97,16 @@ step_by instance caller d s m kind history before here guard rest = record {
 }
 
 module _ (instance : Instance) (caller : ℕ) where
-  -- no step, and a step of the caller before others
+  -- where `P` holds already, the run without a step reaches it
   pub stay : {P : State → Local → Type 0} (s : State) (l : Local) (history : List Entry) → Here instance caller history s l → P s l → Reached instance caller history s P
   stay s l history here holds = record { events = []; to = s; ran = refl; after = l; here = here; holds = holds }
 
+  -- where some run reaches `P` after a step of the caller, some run reaches `P` from the state `s` before that step. `before` is the history there.
   pub step : {P : State → Local → Type 0} (s : State) (l : Local) (kind : Kind) (history before : List Entry) → Here instance caller before s l → Guard instance (scene_of instance s) kind l →
       Reached instance caller history (made instance caller s l kind) P → Reached instance caller history s P
   step s l kind history before here guard rest = step_by instance caller caller s l kind history before here guard rest
 
-  -- a run, and what follows from where it leads
+  -- where some run reaches `P`, and from each state with `P` some run reaches `Q`, some run reaches `Q`
   pub andthen : {P Q : State → Local → Type 0} (from : State) (before history : List Entry) → Reached instance caller before from P →
       ((s : State) (l : Local) → Here instance caller before s l → P s l → Reached instance caller history s Q) → Reached instance caller history from Q
   andthen from before history first next =
@@ -116,7 +120,8 @@ module _ (instance : Instance) (caller : ℕ) where
         holds = rest.holds;
       }
 
-  -- where fact i holds, and some run leads from each fact to the next one, some run leads to the last fact
+  -- where `Q i` holds, and from each state with `Q i`, `i` below `total`, some run reaches `Q (i + 1)`, some run reaches `Q total`. `n` tells how
+  -- many are left.
   pub each_of : (Q : ℕ → State → Local → Type 0) (history : List Entry) (total : ℕ) →
       ((i : ℕ) (s : State) (l : Local) → i < total → Here instance caller history s l → Q i s l → Reached instance caller history s (Q (i + 1))) →
       (n i : ℕ) → i + n ≡ total → (s : State) (l : Local) → Here instance caller history s l → Q i s l → Reached instance caller history s (Q total)

@@ -26,13 +26,13 @@ use Rattle.cx_core.specs.declared.kinds.Event.{Event}
 use Rattle.cx_core.specs.declared.local.Linked.{Linked}
 use Rattle.cx_core.specs.declared.local.Local.{Local}
 
--- a caller with these entries, each answered, that holds no replica
+-- a caller has the entries `own`, each is answered, and it holds no replica
 pub record Answered (own : List Linked) (l : Local) : Type 0 where
   pub linked : l.own ≡ own
   pub all : length l.answered ≡ length l.own
   pub rests : HoldsNone l
 
--- some run leads to a state in which a caller's entries are each answered, and it holds no replica
+-- from a lawful state in which a caller has the entries `own`, some run leads to one in which each is answered, and it holds no replica
 is_answered : (instance : Instance) (caller : ℕ) (history : List Entry) (own : List Linked) (s : State) (l : Local) → Here instance caller history s l → l.own ≡ own → 0 < length instance.base.words →
     Reached instance caller history s (λ _ l'. Answered own l')
 is_answered instance caller history own s l here same some =
@@ -53,13 +53,14 @@ answers instance s caller history own run = record {
   rests = run.holds.rests;
 }
 
+-- from a lawful state over a base with words, some run answers each linked entry of a caller, and leaves the history as it is
 pub reaches_answers : (instance : Instance) (s : State) (caller : ℕ) (l : Local) → Lawful instance s → slice_get s.locals caller ≡ Some l → 0 < length instance.base.words →
     ReachesAnswers instance s caller (history_in instance s) l.own
 reaches_answers instance s caller l law at some =
     let history = history_in instance s in
     answers instance s caller history l.own (is_answered instance caller history l.own s l (record { law = law; at = at; of_history = refl }) refl some)
 
--- a caller has no more entries than the history
+-- a caller has no more entries in a history than the history has; `ticket` is the one of the first entry
 own_short : (caller ticket : ℕ) (history : List Entry) → length (own_of caller ticket history) ≤ length history
 own_short caller ticket [] = omega arith
 own_short caller ticket (e ∷ es) =
@@ -69,7 +70,7 @@ own_short caller ticket (e ∷ es) =
       | inr other ↦ omega (arith, rest, ap length (own_other caller ticket e es other))
     ]
 
--- a caller's next number is a word
+-- the number of a caller's next entry is below 2^64, where its number in the base is at most the base's place
 number_small : (instance : Instance) (s : State) (caller : ℕ) (l : Local) → Lawful instance s → slice_get s.locals caller ≡ Some l → slot_number caller instance.base.words ≤ instance.base.place →
     next_number instance.base l < 2 ^ 64
 number_small instance s caller l law at numbered =
@@ -79,7 +80,9 @@ number_small instance s caller l law at numbered =
     let below = law.tickets.below in
     omega (arith, short, own, mine, below, numbered)
 
--- the caller is settled, its cells are opened, and the entry is written, linked and answered
+-- from a lawful state with a cell and a ticket for it (`room`), some run answers an update: the caller is settled, its cells are opened, and the
+-- entry is written into cell `j`, linked and answered. `x` is the entry with its ticket, `longer` the history with it. `idle`: cell `j` may be
+-- written; `same_number`: the number written is still the caller's next one; `all`: each of its entries is answered before the link.
 pub reaches_update : (instance : Instance) (s : State) (caller : ℕ) (l : Local) (op : List ℕ) → Lawful instance s → slice_get s.locals caller ≡ Some l → HasCellAndTicket instance s l →
     0 < length instance.base.words → slot_number caller instance.base.words ≤ instance.base.place → AreOpWords op → ReachesUpdate instance s caller l op
 reaches_update instance s caller l op law at room some numbered op_words =
@@ -108,7 +111,9 @@ reaches_update instance s caller l op law at room some numbered op_words =
     andthen instance caller s3 longer longer (links instance caller history l1 j room.within number op op_words.long s3 l3 here3 ended same_number room.ticket all) (λ s4 l4 here4 linked.
     is_answered instance caller longer own s4 l4 here4 (linked ∙ ap (λ (xs : List Linked). xs ++ x ∷ []) before) some))))))
 
--- in a state that a run reaches from the opening one, there is room for an update
+-- from a state that a run reaches from the opening one, over a base at its place whose numbers are at most that place, some run answers an update of
+-- any caller, where there is a further ticket. It takes cell 0, which has no ticket, or one of the caller's own entries (`knows`), and so one of the
+-- history (`known`).
 pub reaches_every : (instance : Instance) (events : List Event) (s : State) (caller : ℕ) (l : Local) (op : List ℕ) → 1 ≤ instance.callers → instance.callers ≤ 8 → instance.base.place ≤ 2 ^ 40 →
     place_of instance.base.words ≡ instance.base.place → 0 < length instance.base.words → ((c : ℕ) → c < 8 → slot_number c instance.base.words ≤ instance.base.place) →
     Run instance (opening_state instance.callers instance.base) events s → slice_get s.locals caller ≡ Some l → next_ticket instance s < 2 ^ 40 → AreOpWords op → ReachesUpdate instance s caller l op
@@ -130,6 +135,7 @@ reaches_every instance events s caller l op one few place placed some numbers ru
     } in
     reaches_update instance s caller l op law at room some (numbers caller below) op_words
   where
+    -- a cell without a ticket, or with one below `end_`, may be written where FREE is `end_`; `o` is its ticket, if any
     known_idle : (end_ : ℕ) (o : Option ℕ) → ((t : ℕ) → o ≡ Some t → t < end_) → IsIdleAt end_ o
     known_idle end_ None below = tt
     known_idle end_ (Some t) below = below t refl

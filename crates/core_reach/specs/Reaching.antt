@@ -14,7 +14,7 @@ use Rattle.cx_core.specs.declared.local.Linked.{Linked}
 use Rattle.cx_core.specs.declared.local.Local.{Local}
 use Rattle.cx_core.specs.declared.local.SeenRead.{SeenRead}
 
--- the words of an operation
+-- the words of an operation: 144 of 64 bits
 abbrev pub AreOpWords : List ℕ → Type 0
 AreOpWords op = Words 144 op
 
@@ -26,8 +26,8 @@ history_in instance s = history_of instance.base.place s.locals
 abbrev pub next_ticket : Instance → State → ℕ
 next_ticket instance s = instance.base.place + length (history_in instance s)
 
--- events lead from a state to one in which the caller was answered a read of this operation more, with the reply that the object gives after all entries
--- below its place
+-- some run of `events` leads from `from` to `to`, where the caller has one acknowledged read more than in its local state `l`: `read`, of the
+-- operation `op`, with the reply that the object gives after all entries below the read's place. `after` is the caller's local state in `to`.
 pub record ReachesRead (instance : Instance) (from : State) (caller : ℕ) (l : Local) (op : List ℕ) : Type 0 where
   pub events : List Event
   pub to : State
@@ -43,7 +43,8 @@ pub record ReachesRead (instance : Instance) (from : State) (caller : ℕ) (l : 
 abbrev pub answer_to : Instance → List Entry → Linked → Answer
 answer_to instance history x = record { ticket = x.ticket; reply = reply_after instance history x.ticket x.entry.op }
 
--- events lead from a state to one with this history, in which the caller has these entries and was answered each. It holds no replica.
+-- some run of `events` leads from `from` to `to`, which has this history, and in which the caller's entries are `own`. Each has its answer
+-- (`answer_to`), and the caller holds no replica. `after` is the caller's local state in `to`.
 pub record ReachesAnswers (instance : Instance) (from : State) (caller : ℕ) (history : List Entry) (own : List Linked) : Type 0 where
   pub events : List Event
   pub to : State
@@ -55,20 +56,21 @@ pub record ReachesAnswers (instance : Instance) (from : State) (caller : ℕ) (h
   pub answered : after.answered ≡ map (answer_to instance history) own
   pub rests : HoldsNone after
 
--- There is a cell and a ticket for an update: one of the caller's cells has no ticket, or one of the history, and there is a further ticket. Whether the
--- cell may be written yet is not asked.
+-- There is a cell and a ticket for an update of the caller with the local state `l`: one of its 16 cells has no ticket, or one of the history
+-- (`known`), and there is a further ticket (`ticket`). Whether the cell may be written yet is not asked.
 pub record HasCellAndTicket (instance : Instance) (s : State) (l : Local) : Type 0 where
   pub cell : ℕ
   pub within : cell < 16
   pub known : IsIdleAt (next_ticket instance s) (cell_of l cell).ticket
   pub ticket : next_ticket instance s < 2 ^ 40
 
--- the entry of a caller with this operation, where it is linked next
+-- the entry of a caller with the local state `l` and the operation `op`, with its ticket, where it is linked next
 abbrev pub entry_linked_next : Instance → State → ℕ → Local → List ℕ → Linked
 entry_linked_next instance s caller l op =
     record { ticket = next_ticket instance s; entry = record { caller = caller; number = next_number instance.base l; op = op } }
 
--- events lead to a state in which the caller's entry with this operation is linked as well, behind all others, and answered
+-- some run leads to a state in which the caller's entry with the operation `op` is linked as well, behind all others, and each of its entries is
+-- answered; `x` is the new one
 abbrev pub ReachesUpdate : Instance → State → ℕ → Local → List ℕ → Type 0
 ReachesUpdate instance from caller l op =
     let x = entry_linked_next instance from caller l op in ReachesAnswers instance from caller (history_in instance from ++ x.entry ∷ []) (l.own ++ x ∷ [])

@@ -11,24 +11,28 @@ ghost use Rattle.cx_core.specs.State.{Instance, State, opening_state};
 use cx_base::Object;
 use cx_core::Base;
 
-/// From each lawful state, whatever the callers hold, some run answers each linked entry of a caller, and links no other. The caller puts down each right
-/// but an exclusive one, makes a replica the full image after the whole history, publishes it, and raises DUR by its code.
+/// From each lawful state `s` over a base with words, whatever the callers hold, some run answers each linked entry of a caller, and links no other;
+/// `l` is the caller's local state in `s`. The caller puts down each right but an exclusive one, makes a replica the full image after the whole
+/// history, publishes it, and raises DUR by its code. Where CUR already names a replica at the history's end, it publishes none, and raises DUR by
+/// the code in CUR.
 pub fn linked_updates_can_be_answered()
     ensures { (instance : Instance) (s : State) (caller : ℕ) (l : _) → Lawful instance s → slice_get s.locals caller ≡ Some l →
         0 < length instance.base.words → ReachesAnswers instance s caller (history_in instance s) l.own }
 {}
 
-/// From each lawful state over a base with words, whatever the callers hold, some run links an update of a caller, of the words of any operation, and
-/// answers it with the object's reply after all entries before it. It takes a further ticket, and a cell with no ticket or one of the history. The run opens
-/// the cells: each caller takes its protection back, and this one raises FREE. Of the base, the caller's number in it is at most its place.
+/// From each lawful state `s` over a base with words, whatever the callers hold, some run links an update of a caller, of the words `op` of any
+/// operation, and answers it with the object's reply after all entries before it; `l` is the caller's local state in `s`. The update takes a further
+/// ticket, and a cell with no ticket or one of the history. The run opens the cells: each caller takes its protection back, and this one raises FREE.
+/// The number of the caller's last entry in the base is at most the base's place.
 pub fn updates_can_be_answered()
     ensures { (instance : Instance) (s : State) (caller : ℕ) (l : _) (op : List ℕ) → Lawful instance s → slice_get s.locals caller ≡ Some l →
         HasCellAndTicket instance s l → 0 < length instance.base.words → slot_number caller instance.base.words ≤ instance.base.place →
         AreOpWords op → ReachesUpdate instance s caller l op }
 {}
 
-/// In each state that a run from the opening reaches, over any object with a lawful base, some run answers an update of any caller, as long as there is a
-/// further ticket.
+/// In each state `s` that a run of `events` from the opening reaches, over any object with a lawful base, some run answers an update of any caller,
+/// of the words `op` of any operation, as long as there is a further ticket. There are 1 to 8 callers. `instance` has their number, the base, and
+/// what the object's operations do; `l` is the caller's local state in `s`.
 pub fn every_update_can_be_answered<O: Object>(object: &O, base: &Base)
     requires { LawfulBase (O.line_count object.now) (O.lawful object.now) base.now }
     ensures { (callers : ℕ) (events : _) (s : State) (caller : ℕ) (l : _) (op : List ℕ) →
