@@ -62,7 +62,7 @@ pub fn recover_program(
     if !are_few(count) || fuel > MOST_FUEL {
         return Err(BAD_SIZE);
     }
-    // the program's own fingerprint is not one to take over images of
+    // `before` counts only where it is not the program's own fingerprint
     let fingerprint = fingerprint_of(alloc, words, instructions, fuel)?;
     let head = match head_of(image, PROGRAM) {
         Ok(head) => head,
