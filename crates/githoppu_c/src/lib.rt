@@ -232,9 +232,10 @@ pub extern "C" fn githoppu_close(alloc: Global, session: Handle, out: &mut *mut 
 }
 
 /// Writes an image that a crash could leave of a closed object into `words`: `choice` picks the root, and the values of the dirty words. `needed`
-/// becomes the number of words of the image, which `words` has to have. Where the answer is DONE, a recovery of the words with 1 to 8 sessions
-/// answers DONE, or NO_MEMORY (`GITHOPPU_NO_MEMORY`) where memory runs out, or AGAIN where the new sessions' queue did not take its first entry; and
-/// `githoppu_outcome` of a store's or a queue's words answers DONE or NO_MEMORY for each session.
+/// becomes the number of words of the image, which `words` has to have; where the handle holds no closed object, `needed` is 0, and the answer is
+/// OUT_OF_TURN. Where the answer is DONE, a recovery of the words with 1 to 8 sessions answers DONE, or NO_MEMORY (`GITHOPPU_NO_MEMORY`) where memory
+/// runs out, or AGAIN where the new sessions' queue did not take its first entry; and `githoppu_outcome` of a store's or a queue's words answers DONE
+/// or NO_MEMORY for each session. The pointer to what the handle holds stands at `out` afterwards.
 #[unsafe(no_mangle)]
 pub extern "C" fn githoppu_image(
     closed: Handle,
@@ -254,9 +255,10 @@ pub extern "C" fn githoppu_image(
 }
 
 /// Has a session write an image of its object into `words`, while other sessions go on: the image after all that was answered before. `needed`
-/// becomes the number of words of the image, which has one region only; `words` has to have as many. Where the answer is DONE and each result in the
-/// words keeps a reply, a recovery of them with 1 to 8 sessions answers DONE, or NO_MEMORY (`GITHOPPU_NO_MEMORY`) where memory runs out, or AGAIN
-/// where the new sessions' queue did not take its first entry. The pointer to the session stands at `out` afterwards.
+/// becomes the number of words of the image, which has one region only, and `words` has to have as many; where the handle holds no session, `needed`
+/// is 0, and the answer is OUT_OF_TURN. Where the answer is DONE and each result in the words keeps a reply, a recovery of them with 1 to 8 sessions
+/// answers DONE, or NO_MEMORY (`GITHOPPU_NO_MEMORY`) where memory runs out, or AGAIN where the new sessions' queue did not take its first entry. The
+/// pointer to what the handle holds stands at `out` afterwards.
 #[unsafe(no_mangle)]
 pub extern "C" fn githoppu_checkpoint(
     session: Handle,
