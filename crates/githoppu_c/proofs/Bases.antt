@@ -8,6 +8,7 @@ use Rattle.c_images.specs.declared.reader.WordsFault.TheVariants.{Image}
 use Rattle.githoppu_c.specs.Objects.{IsBaseWith, IsFaultOr, IsNoneWith, IsSameWith}
 use Rattle.githoppu_c.specs.Recoveries.{IsRefusal}
 
+-- a base that `takes` allows, given back only where its results keep replies, is one of `IsBaseWith`, and a refusal is one of `IsFaultOr`
 pub taken : (is : List ℕ → Type 0) (takes : Base → Type 0) (faulty : WordsFault → Type 0) (base : Base) (answer : Result Base ℤ) → takes base → faulty (Image Memory)
     → MatchResult answer (IsSameWith is base) (IsNoneWith is base) → MatchResult answer (IsBaseWith is takes) (IsRefusal (IsFaultOr is takes faulty))
 taken is takes faulty base (Ok same) took memory is_same = subst (IsBaseWith is takes) (sym is_same.0) (took, is_same.1)

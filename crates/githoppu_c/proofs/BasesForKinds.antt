@@ -7,6 +7,8 @@ use Rattle.c_images.specs.declared.reader.WordsFault.{WordsFault}
 use Rattle.githoppu_c.specs.Outcomes.{IsBaseIn, IsBaseOfKind, IsFaultOfKind, RefusesBase}
 use Rattle.githoppu_c.specs.Recoveries.{IsRefusal}
 
+-- An answer that is a base of which `taken` holds, or the status for a fault of which `faulty` holds, is right for `words`: where both belong to the
+-- kind of object that the words name.
 pub base_for_kind : (words : List ℕ) (taken : Base → Type 0) (faulty : WordsFault → Type 0) (answer : Result Base ℤ) → IsHeaded words → ((b : Base) → taken b → IsBaseOfKind (object_kind_in words) words b)
     → ((f : WordsFault) → faulty f → IsFaultOfKind (object_kind_in words) words f) → MatchResult answer taken (IsRefusal faulty) → MatchResult answer (IsBaseIn words) (RefusesBase words)
 base_for_kind words taken faulty (Ok base) headed goes fails is_taken = (headed, goes base is_taken)

@@ -19,13 +19,16 @@ use Rattle.githoppu_c.specs.Again.{IsRegionIn}
 use Rattle.githoppu_c.specs.Checkpoints.{IsWrittenAs, TakesAs, taken_code}
 use Rattle.githoppu_c.proofs.TakenUp.{no_other}
 
+-- an image that was taken, at some place, is not the refusal of a call out of turn
 in_turn : (place : ℕ) → At place ≡ OutOfTurn → ⊥
 in_turn place same = cc
 
 module _ {O : Type 0} (o : Ghosts O) (words : List ℕ) (tries place : ℕ) where
+  -- these words are a lawful base of the service, at this place
   abbrev is_base : Running O → Type 0
   is_base r = LawfulBase r.lines (o.lawful r.object) (record { place = place; words = words })
 
+  -- where a caller took an image of the service `r`, which gave `words` at this place, they are a lawful base of it
   base_from : (r : Running O) (before after : Handed) → TakesFrom o r words tries before (At place) after → is_base r
   base_from r (Idle u) (Idle v) takes = takes.0.base
   base_from r (Idle u) (Linked v) takes = absurd takes
@@ -33,13 +36,14 @@ module _ {O : Type 0} (o : Ghosts O) (words : List ℕ) (tries place : ℕ) wher
   base_from r (Linked u) after takes = absurd (in_turn place takes.0)
   base_from r (Stopped u) after takes = absurd (in_turn place takes.0)
 
+  -- where an open session took an image, which gave `words` at this place, they are a lawful base of its service
   pub taken_base : (before after : Session O) → IsSessionOpen before → IsSessionOpen after → TakesIn o words tries before (At place) after → is_base (arc_value before.service)
   taken_base before after opened then takes =
       let r = arc_value before.service in
       let came = subst (λ (x : Option Handed). IfSome x (λ b. IfSome after.handed (λ a. TakesFrom o r words tries b (At place) a))) opened.is takes.came in
       base_from r opened.handed then.handed (subst (λ (x : Option Handed). IfSome x (λ a. TakesFrom o r words tries opened.handed (At place) a)) then.is came)
 
--- the part of words behind the first 8, where it was put there
+-- where the words behind the first 8 were replaced by `part`, of length `n`, the `n` words behind the first 8 are `part`
 part_there : (before part post : List ℕ) (n : ℕ) → 8 ≤ length before → length part ≡ n → take n (drop 8 (take 8 before ++ (part ++ post))) ≡ part
 part_there before part post n long same =
     let eight : length (take 8 before) ≡ 8 = length-take-le 8 before long in
@@ -56,6 +60,7 @@ written_of kind callers lines place rc rl n before part post words c l long size
 -- ---- where an image was taken, its region is in the words
 
 module _ {O : Type 0} (o : Ghosts O) (kind : ℕ) (before after : Session O) (words : List ℕ) (opened : IsSessionOpen before) (then : IsSessionOpen after) where
+  -- where the status of taking an image is 0, one was taken, and its region is in `words`
   of_taken : (region : List ℕ) (taken : SessionCheckpoint) → TakesIn o region 16 before taken after → IsWrittenAs kind (arc_value before.service) region taken words → pos 0 ≡ taken_code taken
       → IsRegionIn o kind (arc_value before.service) words
   of_taken region (At place) takes written done = record { place = place; region = region; base = taken_base o region 16 place before after opened then takes; written = written }
@@ -63,6 +68,7 @@ module _ {O : Type 0} (o : Ghosts O) (kind : ℕ) (before after : Session O) (wo
   of_taken region TakenStopped takes written done = absurd cc
   of_taken region OutOfTurn takes written done = absurd cc
 
+  -- where a session was to take an image, and the status is 0, `words` are an image of one region that is a lawful base
   pub region_in : (words_before : List ℕ) (needed : ℕ) (code : ℤ) → TakesAs o kind before after words_before words needed code → code ≡ pos 0 → IsRegionIn o kind (arc_value before.service) words
   region_in words_before needed code takes done = elim takes.took [
     | inl t ↦ of_taken t.1.region t.1.taken t.1.takes t.1.written (sym done ∙ t.1.is)

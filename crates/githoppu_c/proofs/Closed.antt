@@ -17,7 +17,7 @@ use Rattle.githoppu_c.specs.Closings.{content_left}
 use Rattle.githoppu_c.specs.Contents.{IsContentCallable, KeepsReplies}
 
 module _ {O : Type 0} (o : Ghosts O) (replies : ReplyKind) where
-  -- what is left where a session is closed may be called
+  -- what a handle holds after an open session was closed is what a further call may be made with
   pub session_callable : (session : Session O) (closing : Closing O) → KeepsReplies replies (arc_value session.service) → Closes o.line_count o.lawful o.step o.only_reads session closing
       → IsContentCallable o replies (content_left closing)
   session_callable session Others keeps is = tt
@@ -27,7 +27,7 @@ module _ {O : Type 0} (o : Ghosts O) (replies : ReplyKind) where
   session_callable session (Missing rest) keeps is = (arc_value session.service, kept_list session.handed, is.0.of, keeps)
   session_callable session (Shared rest) keeps is = (arc_value session.service, kept_list session.handed, is.0, keeps)
 
-  -- what is left where what the last session has is closed may be called
+  -- what a handle holds after what the last session found was closed is what a further call may be made with
   pub rest_callable : (r : Running O) (handover : ReturnQueue O) (given : List Handed) (closing : Closing O) → KeepsReplies replies r
       → ClosesTo o.line_count o.lawful o.step o.only_reads r handover given closing → IsContentCallable o replies (content_left closing)
   rest_callable r handover given Others keeps is = tt

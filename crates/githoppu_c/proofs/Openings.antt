@@ -22,6 +22,7 @@ use Rattle.githoppu_c.proofs.InBoxes.{Boxed, as_boxes, value_of}
 -- sessions of an object, each of which C may call as `any` makes it
 module _ {O : Type 0} (any : Session O → AnyHandleState) (replies : ReplyKind) (callable : (r : Running O) (s : Session O) → KeepsReplies replies r → IsOpenSessionOf r s → IsCallable (any s))
     (object : O) (lines count : ℕ) (base : Base → Type 0) (keeps : (b : Base) → base b → HoldsReplies (IsReplyOfKind replies) b.words) (sessions : List (Session O)) (of : AreSessionsOf object lines count base sessions) where
+  -- boxes that have these sessions in order are as `AreOpened` says, for `wanted` lines, which are the object's
   abbrev pub are_opened : (wanted : ℕ) → lines ≡ wanted → MayOpen wanted count → (boxes : List Boxed) → map value_of boxes ≡ map any sessions → AreOpened any wanted count boxes
   are_opened wanted same may boxes made = record {
     may = may;
@@ -31,6 +32,7 @@ module _ {O : Type 0} (any : Session O → AnyHandleState) (replies : ReplyKind)
     of = as_boxes any of.service count (λ s. callable of.service s (keeps of.service.base of.said)) boxes sessions made of.all of.each;
   }
 
+  -- boxes that have these sessions in order are as `AreRecovered` says, where `taken` holds of each base of which `base` holds
   abbrev pub are_recovered : (taken : Base → Type 0) → ((b : Base) → base b → taken b) → AreFew count → (boxes : List Boxed) → map value_of boxes ≡ map any sessions → AreRecovered any taken count boxes
   are_recovered taken goes few boxes made = record {
     few = few;
@@ -40,11 +42,13 @@ module _ {O : Type 0} (any : Session O → AnyHandleState) (replies : ReplyKind)
     of = as_boxes any of.service count (λ s. callable of.service s (keeps of.service.base of.said)) boxes sessions made of.all of.each;
   }
 
+  -- putting the sessions that were opened into boxes is an answer to an opening: the boxes, or the status that memory ran out
   pub opened_boxes : {V : Type 0} (items : V → List Boxed) (wanted : ℕ) → lines ≡ wanted → MayOpen wanted count → (answer : Result V ℤ)
       → MatchResult answer (λ v. map value_of (items v) ≡ map any sessions) (λ code. code ≡ pos 8) → MatchResult answer (λ v. AreOpened any wanted count (items v)) (Refuses wanted count)
   opened_boxes items wanted same may (Ok v) made = are_opened wanted same may (items v) made
   opened_boxes items wanted same may (Err code) is = inr (may, inl is)
 
+  -- putting the sessions that were recovered into boxes is an answer to a recovery: the boxes, or the status that memory ran out
   pub recovered_boxes : {V : Type 0} (items : V → List Boxed) (kind : ℕ) (taken : Base → Type 0) (faulty : WordsFault → Type 0) (words : List ℕ) → ((b : Base) → base b → taken b) → AreFew count → (answer : Result V ℤ)
       → MatchResult answer (λ v. map value_of (items v) ≡ map any sessions) (λ code. code ≡ pos 8) → MatchResult answer (λ v. AreRecovered any taken count (items v)) (RefusesWords kind faulty words count)
   recovered_boxes items kind taken faulty words goes few (Ok v) made = are_recovered taken goes few (items v) made
@@ -54,7 +58,7 @@ module _ {O : Type 0} (any : Session O → AnyHandleState) (replies : ReplyKind)
 pub kind_refused : {O : Type 0} (o : Ghosts O) (object : O) (words : List ℕ) (a b : ReplyKind) (code : ℤ) → a ≡ b → IsRefusal (IsObjectFault o a object words) code → IsRefusal (IsObjectFault o b object words) code
 kind_refused o object words a b code same refused = subst (λ k. IsRefusal (IsObjectFault o k object words) code) same refused
 
--- the number of why sessions are not opened whose sizes are right
+-- the status for a fault of opening sessions is one of `IsOpenCode`
 pub opening_code : (fault : OpenFault) (code : ℤ) → code ≡ open_code fault → IsOpenCode code
 opening_code (Start fault) code is = inl is
 opening_code InTheWay code is = inr is
@@ -63,7 +67,8 @@ opening_code InTheWay code is = inr is
 pub open_callable : {O : Type 0} (o : Ghosts O) (replies : ReplyKind) (r : Running O) (s : Session O) → KeepsReplies replies r → IsOpenSessionOf r s → IsContentCallable o replies (ContentSession s)
 open_callable o replies r s keeps of = (of.opened, subst (KeepsReplies replies) (sym of.same) keeps)
 
--- why sessions were not recovered from words with a head
+-- The status for why no sessions are recovered from words with a head is one of `RefusesWords`, where each fault of which `refused` holds is one of
+-- which `faulty` holds.
 pub refused_sessions : (kind : ℕ) (faulty refused : WordsFault → Type 0) (words : List ℕ) (count : ℕ) (code : ℤ) → AreFew count → ((fault : WordsFault) → refused fault → faulty fault)
     → IsRefusal refused code ⊎ IsOpenCode code → RefusesWords kind faulty words count code
 refused_sessions kind faulty refused words count code few goes (inl of) = inr (few, inl (record { fault = of.0; because = inr (goes of.0 of.1); is = of.2 }))

@@ -20,10 +20,12 @@ use Rattle.githoppu_c.proofs.InBoxes.{Boxed, value_of}
 use Rattle.githoppu_c.proofs.Openings.{are_opened, are_recovered, open_callable, refused_sessions}
 use Rattle.githoppu_c.proofs.SameLines.{program_base, program_fault}
 
--- the numbers of an object that may be opened or recovered fit
+-- 64 to 16,384 lines, a fuel of at most 2^20, and another program's fingerprint than `version`, or none, are numbers that the object of a program may
+-- have
 pub fits : (lines fuel version : ℕ) (before : Option ℕ) → 64 ≤ lines → lines ≤ 16384 → fuel ≤ 2 ^ 20 → is_other before version ≡ true → numbers_fit lines fuel version before ≡ true
 fits lines fuel version before least most small other = grind (arith, nat_tests)
 
+-- Putting the sessions of a program's object that were opened into boxes is an answer to an opening: the boxes, or the status that memory ran out.
 pub program_boxes : {V : Type 0} (items : V → List Boxed) (words : List ℕ) (instructions fuel lines count : ℕ) (base : Base → Type 0) → MayOpen lines count → IsFuel fuel → (o : ProgramObject)
     → IsObjectOf words instructions fuel lines None o → (sessions : List (Session ProgramObject)) → AreSessionsOf o o.lines count base sessions → (answer : Result V ℤ)
     → MatchResult answer (λ v. map value_of (items v) ≡ map program_session sessions) (λ code. code ≡ pos 8)
@@ -37,9 +39,11 @@ program_boxes items words instructions fuel lines count base may small o is sess
 
 module _ (words : List ℕ) (instructions fuel before : ℕ) (image : List ℕ) (count : ℕ) (few : AreFew count) (small : IsFuel fuel) (o : ProgramObject)
     (is : IsObjectOf words instructions fuel (lines_in image) (before_of before (fingerprint words instructions fuel)) o) where
+  -- `words` are a program: they decode to the instructions of the object `o`
   abbrev program_is : IsProgram words instructions
   program_is = (instructions_of o.program, is.decodes)
 
+  -- the status for why no sessions are recovered for the object `o` of the program is one of `RefusesProgramRecovery`
   pub refused_program : (code : ℤ) → IsRefusal (IsObjectFault program_ghosts ProgramReplies o image) code ⊎ IsOpenCode code → RefusesProgramRecovery words instructions fuel before image count code
   refused_program code because =
       inr (
@@ -52,6 +56,7 @@ module _ (words : List ℕ) (instructions fuel before : ℕ) (image : List ℕ) 
         ),
       )
 
+  -- putting the sessions that were recovered for the object `o` into boxes is an answer to a recovery: the boxes, or the status that memory ran out
   pub recovered_program : {V : Type 0} (items : V → List Boxed) (sessions : List (Session ProgramObject)) → AreSessionsOf o o.lines count (IsObjectIn program_ghosts ProgramReplies o image) sessions → (answer : Result V ℤ)
       → MatchResult answer (λ v. map value_of (items v) ≡ map program_session sessions) (λ code. code ≡ pos 8)
       → MatchResult answer (λ v. AreProgramsRecovered words instructions fuel before image count (items v)) (RefusesProgramRecovery words instructions fuel before image count)
@@ -66,7 +71,7 @@ module _ (words : List ℕ) (instructions fuel before : ℕ) (image : List ℕ) 
   }
   recovered_program items sessions of (Err code) made = inr (few, small, inr (program_is, inr (few, inr (inl made))))
 
--- what C is answered where nothing is recovered
+-- a status for why a program recovers no sessions is one that C may be given
 pub answered_recovery : (words : List ℕ) (instructions fuel before : ℕ) (image : List ℕ) (count : ℕ) (code : ℤ) → RefusesProgramRecovery words instructions fuel before image count code
     → RecoversProgram words instructions fuel before image count code
 answered_recovery words instructions fuel before image count code (inl wrong) = inl wrong

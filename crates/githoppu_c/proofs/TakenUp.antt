@@ -42,7 +42,8 @@ use Rattle.githoppu_c.specs.declared.content.HandleState.TheVariants.{Closed, Go
 use Rattle.githoppu_c.proofs.OtherBefore.{kept_with, leaves_of, opened_with, running_with, with_before}
 use Rattle.githoppu_c.proofs.Replies.{queues_give_replies, stores_give_replies}
 
--- Words that are refused for want of memory alone, and of which the base keeps replies, are refused for nothing else where the replies are looked at.
+-- Where reading a base is refused only when memory runs out, and the results of each such base keep replies, looking at the replies adds no other
+-- fault.
 pub memory_alone : (is : List ℕ → Type 0) (takes kept : Base → Type 0) (faulty : WordsFault → Type 0)
     → ((answer : Result Base WordsFault) → MatchResult answer takes faulty → MatchResult answer kept (λ fault. fault ≡ Image Memory))
     → ((base : Base) → takes base → HoldsReplies is base.words)
@@ -50,6 +51,7 @@ pub memory_alone : (is : List ℕ → Type 0) (takes kept : Base → Type 0) (fa
 memory_alone is takes kept faulty up holds fault (inl of) = up (Err fault) of
 memory_alone is takes kept faulty up holds fault (inr (same, (base, took, other))) = absurd (other (holds base took))
 
+-- words that begin with a head of this kind of object have no fault of the head
 no_head_fault : (kind : ℕ) (words : List ℕ) (fault : WordsFault) → IsHeaded words → object_kind_in words ≡ kind → IsHeadFault kind words fault → ⊥
 no_head_fault kind words Head headed same is = is headed
 no_head_fault kind words (Kind found) headed same is = is.2 same
@@ -57,6 +59,7 @@ no_head_fault kind words (Image fault) headed same is = is
 no_head_fault kind words Numbers headed same is = is
 
 module _ (kind : ℕ) (words : List ℕ) (headed : IsHeaded words) (same : object_kind_in words ≡ kind) where
+  -- where memory is the only fault that words with this head may have, recovering 1 to 8 sessions from them has the status 0, 8 or 2
   pub recovers_again : (taken : Base → Type 0) (faulty : WordsFault → Type 0) → ((fault : WordsFault) → faulty fault → fault ≡ Image Memory)
       → (count : ℕ) (code : ℤ) → AreFew count → Recovers kind taken faulty words count code → (code ≡ pos 0) ⊎ IsOpenCode code
   recovers_again taken faulty alone count code few (inl done) = inl done.2
@@ -68,14 +71,14 @@ module _ (kind : ℕ) (words : List ℕ) (headed : IsHeaded words) (same : objec
       ]
   recovers_again taken faulty alone count code few (inr (inr (as_many, inr not))) = inr not
 
-  -- what became of a session is told, unless memory runs out
+  -- where memory is the only fault that words may have, telling the outcome of a session has the status 0 or 8
   pub tells_again : ((fault : WordsFault) → IsBaseFault words fault → fault ≡ Image Memory) → (session number_before number : ℕ) (reply_before reply : List ℕ) (code : ℤ) → session < 8
       → WritesOutcome words session number_before number reply_before reply code → (code ≡ pos 0) ⊎ (code ≡ pos 8)
   tells_again alone session number_before number reply_before reply code few (inl (outcome, is, are, done)) = inl done
   tells_again alone session number_before number reply_before reply code few (inr (inl (many, bad), n, r)) = absurd (omega (arith, many, few))
   tells_again alone session number_before number reply_before reply code few (inr (inr (small, (fault, of, is)), n, r)) = inr (is ∙ ap fault_code (alone fault of))
 
--- words with the head of a store, or of a queue, that have no fault as such but want of memory have no other
+-- where memory is the only fault of `words` as of a document store, which their head names, it is their only fault
 pub store_faults : (words : List ℕ) → IsHeaded words → object_kind_in words ≡ 1 → ((fault : WordsFault) → IsStoreFault words fault → fault ≡ Image Memory)
     → (fault : WordsFault) → IsBaseFault words fault → fault ≡ Image Memory
 store_faults words headed kind alone fault (inl head) = absurd (no_head_fault (object_kind_in words) words fault headed refl head)
@@ -83,6 +86,7 @@ store_faults words headed kind alone fault (inr (head, inl (one, of))) = alone f
 store_faults words headed kind alone fault (inr (head, inr (inl (two, of)))) = absurd (omega (arith, kind, two))
 store_faults words headed kind alone fault (inr (head, inr (inr (three, of)))) = absurd (omega (arith, kind, three))
 
+-- where memory is the only fault of `words` as of a queue, which their head names, it is their only fault
 pub queue_faults : (words : List ℕ) → IsHeaded words → object_kind_in words ≡ 2 → ((fault : WordsFault) → IsQueueFault words fault → fault ≡ Image Memory)
     → (fault : WordsFault) → IsBaseFault words fault → fault ≡ Image Memory
 queue_faults words headed kind alone fault (inl head) = absurd (no_head_fault (object_kind_in words) words fault headed refl head)
@@ -94,6 +98,8 @@ queue_faults words headed kind alone fault (inr (head, inr (inr (three, of)))) =
 
 -- words that are refused, for an object of as many lines as they say, only where memory runs out are taken up again, and the base is one that was kept
 module _ (words : List ℕ) (lines : ℕ) (there : lines_in words ≡ lines) (kept : Base → Type 0) where
+  -- for any kind of object: where reading a base from `words` is refused only when memory runs out, and its results keep replies, `IsTakenUpAgain`
+  -- holds
   taken_up_again : (kind : ℕ) (headed : IsHeaded words) (same : object_kind_in words ≡ kind) (is : List ℕ → Type 0) (takes : ℕ → Base → Type 0) (faulty : ℕ → WordsFault → Type 0)
       → ((answer : Result Base WordsFault) → MatchResult answer (takes lines) (faulty lines) → MatchResult answer kept (λ fault. fault ≡ Image Memory))
       → ((base : Base) → takes lines base → HoldsReplies is base.words)
@@ -108,35 +114,45 @@ module _ (words : List ℕ) (lines : ℕ) (there : lines_in words ≡ lines) (ke
         keeps = λ base taken. up (Ok base) (subst (λ n. takes n base) there taken.0);
       }
 
+  -- a base is what is read from `words` for a document store of `n` lines
   abbrev store_takes : ℕ → Base → Type 0
   store_takes n = IsTakenUp 2 (IsImageOfStore n) (first_format n) words
 
+  -- a fault is why no base is read from `words` for a document store of `n` lines
   abbrev store_faulty : ℕ → WordsFault → Type 0
   store_faulty n = IsWordsFault 2 (IsImageOfStore n) (first_format n) words
 
+  -- where reading a base of a document store from `words` is refused only when memory runs out, and its results keep replies, the words are recovered
+  -- again
   pub store_again : IsHeaded words × (object_kind_in words ≡ 1)
       → ((answer : Result Base WordsFault) → MatchResult answer (store_takes lines) (store_faulty lines) → MatchResult answer kept (λ fault. fault ≡ Image Memory))
       → ((base : Base) → store_takes lines base → HoldsReplies IsDocumentReply base.words) → IsTakenUpAgain 1 (IsStoreIn words) (IsStoreFault words) kept words
   store_again head up holds = taken_up_again 1 head.0 head.1 IsDocumentReply store_takes store_faulty up holds (store_faults words head.0 head.1)
 
+  -- a base is what is read from `words` for a queue of `n` lines
   abbrev queue_takes : ℕ → Base → Type 0
   queue_takes n = IsTakenUp 16 (IsFifo n) no_old_format words
 
+  -- a fault is why no base is read from `words` for a queue of `n` lines
   abbrev queue_faulty : ℕ → WordsFault → Type 0
   queue_faulty n = IsWordsFault 16 (IsFifo n) no_old_format words
 
+  -- where reading a base of a queue from `words` is refused only when memory runs out, and its results keep replies, the words are recovered again
   pub queue_again : IsHeaded words × (object_kind_in words ≡ 2)
       → ((answer : Result Base WordsFault) → MatchResult answer (queue_takes lines) (queue_faulty lines) → MatchResult answer kept (λ fault. fault ≡ Image Memory))
       → ((base : Base) → queue_takes lines base → HoldsReplies IsQueueReply base.words) → IsTakenUpAgain 2 (IsQueueIn words) (IsQueueFault words) kept words
   queue_again head up holds = taken_up_again 2 head.0 head.1 IsQueueReply queue_takes queue_faulty up holds (queue_faults words head.0 head.1)
 
   module _ (version : ℕ) (old : ℕ → OldFormat) where
+    -- a base is what is read from `words` for a program's object of `n` lines, with this fingerprint and older format
     abbrev program_takes : ℕ → Base → Type 0
     program_takes n = IsTakenUp version (IsProgramImage n version) (old n) words
 
+    -- a fault is why no base is read from `words` for a program's object of `n` lines, with this fingerprint and older format
     abbrev program_faulty : ℕ → WordsFault → Type 0
     program_faulty n = IsWordsFault version (IsProgramImage n version) (old n) words
 
+    -- where reading a base of a program's object from `words` is refused only when memory runs out, the words are recovered again
     pub program_again : IsHeaded words × (object_kind_in words ≡ 3)
         → ((answer : Result Base WordsFault) → MatchResult answer (program_takes lines) (program_faulty lines) → MatchResult answer kept (λ fault. fault ≡ Image Memory))
         → IsRecoveredAgain 3 (IsProgramIn version old words) (IsProgramFault version old words) kept words
@@ -151,9 +167,12 @@ module _ (words : List ℕ) (lines : ℕ) (there : lines_in words ≡ lines) (ke
 
 -- ---- what an image that is written comes to
 
+-- a status is not both 0 and 7
 pub no_other : (code : ℤ) → code ≡ pos 0 → code ≡ pos 7 → ⊥
 no_other code done bad = cc
 
+-- Where an image of a closed service was to be written, and the status is 0, it is as `IsLeftImage` says: by the three laws on what is written, which
+-- say its head, what is read from it, and that its results keep replies.
 pub left_image : {O : Type 0} (o : Ghosts O) (kind : ℕ) (replies : ReplyKind) (choice : ℕ) (before words : List ℕ) (needed : ℕ) (code : ℤ) (r : Remains) (table : Running O)
     (closed : IsClosedOf o.line_count o.lawful o.step o.only_reads table r) → KeepsReplies replies table → WritesRemains kind r choice before words needed code → code ≡ pos 0
     → (AreRemainsWritten kind r choice words → IsHeaded words × (object_kind_in words ≡ kind))
@@ -177,6 +196,7 @@ left_image o kind replies choice before words needed code r table closed opened 
 ]
 
 module _ (choice : ℕ) (words : List ℕ) where
+  -- the image of a closed service of a document store, as `IsLeftImage` says, is recovered again
   store_left : (r : Remains) → IsLeftImage store_ghosts 1 Document choice words r → IsStoreAgain r choice words
   store_left r left = record {
     table = left.table;
@@ -185,6 +205,7 @@ module _ (choice : ℕ) (words : List ℕ) where
         (λ base took. left.goes_on base took (stores_give_replies left.table.object.lines) left.opened);
   }
 
+  -- the image of a closed service of a queue, as `IsLeftImage` says, is recovered again
   queue_left : (r : Remains) → IsLeftImage queue_ghosts 2 QueueReplies choice words r → IsQueueAgain r choice words
   queue_left r left =
       let enough = left.closed.is.opened.enough in
@@ -205,6 +226,7 @@ module _ (choice : ℕ) (words : List ℕ) where
       (IsWordsFault (program_ghosts.version_number table.object) (program_ghosts.lawful table.object) (program_ghosts.old_format table.object) words)
       → MatchResult answer (IsKeptOfClosed program_ghosts table seats r choice) (λ fault. fault ≡ Image Memory)
 
+  -- the image of a closed service of a program's object, as `IsLeftImage` says, is recovered again, whichever other program's images are taken over
   program_left : WrittenIsTakenUp → (r : Remains) → IsLeftImage program_ghosts 3 ProgramReplies choice words r → IsProgramAgain r choice words
   program_left law r left =
       let table = left.table in
@@ -220,6 +242,7 @@ module _ (choice : ℕ) (words : List ℕ) where
       }
 
   module _ (code : ℤ) where
+    -- an image written of a closed document store is recovered again; where the handle holds anything else, nothing is to be shown
     pub store_comes_back : (content : HandleState DocStore) → ContentComesBack store_ghosts 1 Document choice words code content → ComesBack (Documents content) choice words code
     store_comes_back (Closed r) back = λ done. store_left r (back done)
     store_comes_back (Session session) back = tt
@@ -227,6 +250,7 @@ module _ (choice : ℕ) (words : List ℕ) where
     store_comes_back (Unclosed rest) back = tt
     store_comes_back Gone back = tt
 
+    -- an image written of a closed queue is recovered again; where the handle holds anything else, nothing is to be shown
     pub queue_comes_back : (content : HandleState Fifo) → ContentComesBack queue_ghosts 2 QueueReplies choice words code content → ComesBack (Queue content) choice words code
     queue_comes_back (Closed r) back = λ done. queue_left r (back done)
     queue_comes_back (Session session) back = tt
@@ -234,6 +258,7 @@ module _ (choice : ℕ) (words : List ℕ) where
     queue_comes_back (Unclosed rest) back = tt
     queue_comes_back Gone back = tt
 
+    -- an image written of a closed program's object is recovered again; where the handle holds anything else, nothing is to be shown
     pub program_comes_back : WrittenIsTakenUp → (content : HandleState ProgramObject) → ContentComesBack program_ghosts 3 ProgramReplies choice words code content
         → ComesBack (Program content) choice words code
     program_comes_back law (Closed r) back = λ done. program_left law r (back done)
@@ -245,6 +270,7 @@ module _ (choice : ℕ) (words : List ℕ) where
 -- ---- what an image that a session took comes to
 
 module _ (words : List ℕ) where
+  -- the image that a session took of a running document store is recovered again, where its results keep replies
   store_taken : (r : Running DocStore) → IsTakenImage store_ghosts 1 words r → IsTakenStoreAgain r words
   store_taken r image =
       let base = base_at image.has.place image.has.region in
@@ -254,6 +280,7 @@ module _ (words : List ℕ) where
             (λ b took. subst (λ (x : Base). HoldsReplies IsDocumentReply x.words) (sym (image.up (Ok b) took)) holds);
       }
 
+  -- the image that a session took of a running queue is recovered again, where its results keep replies
   queue_taken : (r : Running Fifo) → IsTakenImage queue_ghosts 2 words r → IsTakenQueueAgain r words
   queue_taken r image =
       let base = base_at image.has.place image.has.region in
@@ -272,6 +299,7 @@ module _ (words : List ℕ) where
       (IsWordsFault (program_ghosts.version_number table.object) (program_ghosts.lawful table.object) (program_ghosts.old_format table.object) words)
       → MatchResult answer (λ base. base ≡ base_at place region) (λ fault. fault ≡ Image Memory)
 
+  -- the image that a session took of a running program's object is recovered again, whichever other program's images are taken over
   program_taken : TakenIsTakenUp → (r : Running ProgramObject) → IsTakenImage program_ghosts 3 words r → IsTakenProgramAgain r words
   program_taken law r image =
       let has = image.has in
@@ -283,6 +311,7 @@ module _ (words : List ℕ) where
       }
 
   module _ (code : ℤ) where
+    -- an image that a session of a document store took is recovered again; where the handle holds no session, nothing is to be shown
     pub store_taken_back : (content : HandleState DocStore) → ContentTakenBack store_ghosts 1 words code content → TakenComesBack (Documents content) words code
     store_taken_back (Session session) back = λ done. store_taken (arc_value session.service) (back done)
     store_taken_back (Closed r) back = tt
@@ -290,6 +319,7 @@ module _ (words : List ℕ) where
     store_taken_back (Unclosed rest) back = tt
     store_taken_back Gone back = tt
 
+    -- an image that a session of a queue took is recovered again; where the handle holds no session, nothing is to be shown
     pub queue_taken_back : (content : HandleState Fifo) → ContentTakenBack queue_ghosts 2 words code content → TakenComesBack (Queue content) words code
     queue_taken_back (Session session) back = λ done. queue_taken (arc_value session.service) (back done)
     queue_taken_back (Closed r) back = tt
@@ -297,6 +327,7 @@ module _ (words : List ℕ) where
     queue_taken_back (Unclosed rest) back = tt
     queue_taken_back Gone back = tt
 
+    -- an image that a session of a program's object took is recovered again; where the handle holds no session, nothing is to be shown
     pub program_taken_back : TakenIsTakenUp → (content : HandleState ProgramObject) → ContentTakenBack program_ghosts 3 words code content → TakenComesBack (Program content) words code
     program_taken_back law (Session session) back = λ done. program_taken law (arc_value session.service) (back done)
     program_taken_back law (Closed r) back = tt

@@ -17,7 +17,7 @@ use Rattle.githoppu_c.specs.declared.content.AnyHandleState.{AnyHandleState}
 use Rattle.githoppu_c.specs.declared.content.HandleState.{HandleState}
 use Rattle.githoppu_c.specs.declared.content.HandleState.TheVariants.{Session as ContentSession}
 
--- the number of the result of taking an image
+-- the status that C is given for the result of taking an image
 abbrev pub taken_code : SessionCheckpoint → ℤ
 taken_code (At place) = pos 0
 taken_code Again = pos 2
@@ -28,12 +28,14 @@ taken_code OutOfTurn = pos 6
 abbrev pub checkpoint_words : {O : Type 0} → Running O → ℕ
 checkpoint_words r = region_words r.lines + 8
 
--- where an image was taken, the words are an image of an object of this kind, of the region that was taken
+-- where the result is that an image was taken, `words` are an image, with a head that names this kind of object, of the words `region` of the replica
+-- that was taken; of another result nothing is said
 abbrev pub IsWrittenAs : {O : Type 0} → ℕ → Running O → List ℕ → SessionCheckpoint → List ℕ → Type 0
 IsWrittenAs kind r region (At place) words = IsWrittenOf kind r.callers r.lines place region words
 IsWrittenAs kind r region taken words = Unit {0}
 
--- a session was to take an image, in 16 tries, and this was the result
+-- the session `before` was to take an image, in 16 tries, and is `after` then; `code` is the status of the result, and `words` are the image where
+-- one was taken
 pub record TookImage {O : Type 0} (o : Ghosts O) (kind : ℕ) (before after : Session O) (words : List ℕ) (code : ℤ) : Type 0 where
   pub region : List ℕ
   pub taken : SessionCheckpoint
@@ -41,26 +43,29 @@ pub record TookImage {O : Type 0} (o : Ghosts O) (kind : ℕ) (before after : Se
   pub written : IsWrittenAs kind (arc_value before.service) region taken words
   pub is : code ≡ taken_code taken
 
--- a session took an image where there are as many words as it takes, which is the number `needed`; with another number of words nothing is changed
+-- A session was to take an image into a buffer of the words `words_before`; `needed` is told as the length of such an image. A buffer of this length
+-- has `words` then, as the result `code` says. A buffer of another length stays as it is, and so does the session, and the status is 7.
 pub record TakesAs {O : Type 0} (o : Ghosts O) (kind : ℕ) (before after : Session O) (words_before words : List ℕ) (needed : ℕ) (code : ℤ) : Type 0 where
   pub needed_is : needed ≡ checkpoint_words (arc_value before.service)
   pub took : ((length words_before ≡ checkpoint_words (arc_value before.service)) × TookImage o kind before after words code)
       ⊎ ((length words_before ≢ checkpoint_words (arc_value before.service)) × (code ≡ pos 7) × (words ≡ words_before) × (after ≡ before))
 
--- taking an image, of whatever object: a session took one; what is no session was called out of turn, and nothing is changed
+-- What a handle holds was to take an image. A session does as in `TakesAs`, and stays a session. Of anything else the call is refused as out of turn
+-- (6), nothing is changed, and `needed` is 0.
 abbrev pub ContentCheckpoints : {O : Type 0} → Ghosts O → ℕ → List ℕ → List ℕ → ℕ → ℤ → HandleState O → HandleState O → Type 0
 ContentCheckpoints o kind words_before words needed code (ContentSession before) (ContentSession after) =
     TakesAs o kind before after words_before words needed code
 ContentCheckpoints o kind words_before words needed code (ContentSession before) after = ⊥
 ContentCheckpoints o kind words_before words needed code before after = (after ≡ before) × (words ≡ words_before) × (needed ≡ 0) × (code ≡ pos 6)
 
--- taking an image had this result, by a session of any of the three objects or by what is no session
+-- what a handle holds, of any kind of object, was to take an image: a session did as in `TakesAs`, and of anything else the call was refused as out
+-- of turn
 abbrev pub CheckpointsSession : AnyHandleState → AnyHandleState → List ℕ → List ℕ → ℕ → ℤ → Type 0
 CheckpointsSession before after words_before words needed code =
     OfBoth (ContentCheckpoints store_ghosts 1 words_before words needed code) (ContentCheckpoints queue_ghosts 2 words_before words needed code)
     (ContentCheckpoints program_ghosts 3 words_before words needed code) before after
 
--- what C is answered, which left what may be called
+-- what C is answered where it has a session take an image: after the call the handle holds `after`, with which a further call may be made
 pub record AnswersCheckpoint (before : AnyHandleState) (words_before words : List ℕ) (needed : ℕ) (code : ℤ) : Type 0 where
   pub after : AnyHandleState
   pub callable : IsCallable after

@@ -21,7 +21,7 @@ use Rattle.githoppu_c.specs.declared.content.AnyHandleState.{AnyHandleState}
 use Rattle.githoppu_c.specs.declared.content.HandleState.{HandleState}
 use Rattle.githoppu_c.specs.declared.content.HandleState.TheVariants.{Session, Kept, Unclosed, Closed, Gone}
 
--- what C has after a closing with this result
+-- what a handle holds after its session was closed with this result
 abbrev pub content_left : {O : Type 0} → Closing O → HandleState O
 content_left (ClosingAgain session) = Session session
 content_left (ClosingClosed remains account) = Closed remains
@@ -30,8 +30,9 @@ content_left (Missing rest) = Unclosed rest
 content_left (Shared rest) = Unclosed rest
 content_left closing = Gone
 
--- A session was closed, as its closing has it. A service with all its callers is closed, or memory runs out again and all is as it was; what the last
--- session has is closed, as the closing of it has it. What is closed already, or gone, was called out of turn, and is as it was.
+-- What a handle holds was to be closed, `code` is the status, and `after` is what it holds then. A session is closed, with some result of its
+-- closing. A service with all its callers is closed, or memory runs out again and it stays as it is. What the last session found is closed, with some
+-- result of that closing. Of what is closed already, or gone, the call is refused as out of turn (6), and nothing is changed.
 abbrev pub ContentCloses : {O : Type 0} → Ghosts O → ℤ → HandleState O → HandleState O → Type 0
 ContentCloses {O = O} o code (Session session) after =
     (closing : Closing O) × Closes o.line_count o.lawful o.step o.only_reads session closing × (after ≡ content_left closing) × (code ≡ closing_code closing)
@@ -44,26 +45,29 @@ ContentCloses {O = O} o code (Unclosed rest) after =
     × (after ≡ content_left closing) × (code ≡ closing_code closing)
 ContentCloses o code before after = (after ≡ before) × (code ≡ pos 6)
 
--- what C has, of any of the three objects, was closed, with this code
+-- what a handle holds, of any kind of object, was to be closed; `code` is the status, and `after` is what the handle holds then
 abbrev pub ClosesAs : AnyHandleState → AnyHandleState → ℤ → Type 0
 ClosesAs before after code = OfBoth (ContentCloses store_ghosts code) (ContentCloses queue_ghosts code) (ContentCloses program_ghosts code) before after
 
--- how many words an image has of what a closed service left
+-- how many words an image has of the closed service that left `r`: a head of 8, and those of its replicas
 abbrev pub remains_words : Remains → ℕ
 remains_words r = image_size r.callers r.lines + 8
 
--- what a closed service left, by choice: written where there are as many words as it takes, which is the number `needed`; else nothing is written
+-- An image was to be written, by `choice`, of the closed service that left `r`, into a buffer of the words `before`; `needed` is the length of such
+-- an image. A buffer of this length has the image, the words `after`. Another stays as it is, and the status is 7.
 pub record WritesRemains (kind : ℕ) (r : Remains) (choice : ℕ) (before after : List ℕ) (needed : ℕ) (code : ℤ) : Type 0 where
   pub needed_is : needed ≡ remains_words r
   pub written : ((length before ≡ remains_words r) × (code ≡ pos 0) × AreRemainsWritten kind r choice after)
       ⊎ ((length before ≢ remains_words r) × (code ≡ pos 7) × (after ≡ before))
 
--- the image of what is closed; what is not closed has none
+-- an image of what a handle holds was to be written: of what a closed service left it is as in `WritesRemains`; of anything else the call is refused
+-- as out of turn (6), no word is written, and `needed` is 0
 abbrev pub ContentImages : {O : Type 0} → ℕ → ℕ → List ℕ → List ℕ → ℕ → ℤ → HandleState O → Type 0
 ContentImages kind choice before after needed code (Closed r) = WritesRemains kind r choice before after needed code
 ContentImages kind choice before after needed code content = (after ≡ before) × (needed ≡ 0) × (code ≡ pos 6)
 
--- the image of what is closed, of any of the three objects; what is not closed has none
+-- an image of what a handle holds, of any kind of object, was to be written: of what a closed service left it is as in `WritesRemains`, and of
+-- anything else the call is refused as out of turn
 abbrev pub Images : AnyHandleState → ℕ → List ℕ → List ℕ → ℕ → ℤ → Type 0
 Images content choice before after needed code =
     OfAny (ContentImages 1 choice before after needed code) (ContentImages 2 choice before after needed code)

@@ -11,7 +11,7 @@ use Rattle.c_sessions.specs.declared.steps.Called.TheVariants.{Done, Pending, Ag
 use Rattle.recovery.specs.declared.recovered_base.ImageFault.{ImageFault}
 use Rattle.recovery.specs.declared.recovered_base.ImageFault.TheVariants.{Size, Root, Version, Place, Body, Memory}
 
--- the number of a call's result
+-- the status that C is given for the result of an operation
 abbrev pub code_of : Called → ℤ
 code_of (Done place) = pos 0
 code_of Pending = pos 1
@@ -21,7 +21,7 @@ code_of Worn = pos 4
 code_of Stopped = pos 5
 code_of OutOfTurn = pos 6
 
--- the number of the result of closing a session
+-- the status that C is given for the result of closing a session
 abbrev pub closing_code : {O : Type 0} → Closing O → ℤ
 closing_code (Closed remains account) = pos 0
 closing_code (ClosingAgain session) = pos 2
@@ -30,16 +30,17 @@ closing_code Others = pos 11
 closing_code (Missing rest) = pos 12
 closing_code (Shared rest) = pos 2
 
--- the number of why no sessions are opened whose sizes are right
+-- the status for why no sessions were opened, though their sizes were right
 abbrev pub open_code : OpenFault → ℤ
 open_code (Start fault) = pos 8
 open_code InTheWay = pos 2
 
--- one of the numbers of why no sessions are opened whose sizes are right: memory ran out, or the sessions' new queue did not take its first entry
+-- a status for why no sessions were opened, though their sizes were right: memory ran out (8), or the sessions' new queue did not take its first
+-- entry (2)
 abbrev pub IsOpenCode : ℤ → Type 0
 IsOpenCode code = (code ≡ pos 8) ⊎ (code ≡ pos 2)
 
--- the number of why recovery refuses an image, or that memory ran out
+-- the status for why recovery refuses an image, or that memory ran out
 abbrev pub image_code : ImageFault → ℤ
 image_code Memory = pos 8
 image_code (Size found) = pos 15
@@ -48,8 +49,8 @@ image_code (Version found) = pos 17
 image_code (Place root region) = pos 18
 image_code Body = pos 19
 
--- the number of why nothing is taken up from words: their head or their kind is wrong, recovery refuses the image, or a result has a number above the image's
--- place
+-- the status for why no base is taken from words: they begin with no head, or name another kind of object, recovery refuses the image, or a result
+-- has a number above the image's place
 abbrev pub fault_code : WordsFault → ℤ
 fault_code Head = pos 13
 fault_code (Kind found) = pos 14

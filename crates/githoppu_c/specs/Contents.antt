@@ -30,13 +30,14 @@ use Rattle.githoppu_c.specs.declared.content.AnyHandleState.TheVariants.{Documen
 use Rattle.githoppu_c.specs.declared.content.HandleState.{HandleState}
 use Rattle.githoppu_c.specs.declared.content.HandleState.TheVariants.{Session, Kept, Unclosed, Closed, Gone}
 
--- of a content of any object: the one of these three properties holds that is for its object
+-- of what a handle holds, `content`: that one of the three properties that is for its kind of object
 abbrev pub OfAny : (HandleState DocStore → Type 0) → (HandleState Fifo → Type 0) → (HandleState ProgramObject → Type 0) → AnyHandleState → Type 0
 OfAny documents queue program (Documents content) = documents content
 OfAny documents queue program (Queue content) = queue content
 OfAny documents queue program (Program content) = program content
 
--- of two contents of one object: the one of these three relations holds that is for their object
+-- of what a handle held before a call and holds after it: they are of one kind of object, and that one of the three relations holds that is for this
+-- kind
 abbrev pub OfBoth : (HandleState DocStore → HandleState DocStore → Type 0) → (HandleState Fifo → HandleState Fifo → Type 0)
     → (HandleState ProgramObject → HandleState ProgramObject → Type 0) → AnyHandleState → AnyHandleState → Type 0
 OfBoth documents queue program (Documents before) (Documents after) = documents before after
@@ -44,12 +45,13 @@ OfBoth documents queue program (Queue before) (Queue after) = queue before after
 OfBoth documents queue program (Program before) (Program after) = program before after
 OfBoth documents queue program before after = ⊥
 
--- a service was opened with results that keep replies of this kind
+-- each result slot with a number, in the base that the service `r` started from, keeps a reply of the kind `replies`, or 144 zeros
 abbrev pub KeepsReplies : {O : Type 0} → ReplyKind → Running O → Type 0
 KeepsReplies replies r = HoldsReplies (IsReplyOfKind replies) r.base.words
 
--- What C may call: an open session, a service with all its callers that is still to be closed, or with those that the last session found, what a
--- closed one left, or nothing any more. The service was opened with results that keep replies.
+-- What a handle may hold when a call is made. It is one of: an open session; a service with all its callers, which is to be closed again; what the
+-- last session found, which is to be closed again; what a closed service left; nothing any more. The base that the service started from keeps replies
+-- of the kind `replies`.
 abbrev pub IsContentCallable : {O : Type 0} → Ghosts O → ReplyKind → HandleState O → Type 0
 IsContentCallable o replies (Session session) = IsSessionOpen session × KeepsReplies replies (arc_value session.service)
 IsContentCallable o replies (Kept kept) = AreSeats kept.service (seats_of kept.callers.items) × KeepsReplies replies kept.service
@@ -57,16 +59,16 @@ IsContentCallable {O = O} o replies (Unclosed rest) = (r : Running O) × (given 
 IsContentCallable {O = O} o replies (Closed remains) = (r : Running O) × IsClosedOf o.line_count o.lawful o.step o.only_reads r remains × KeepsReplies replies r
 IsContentCallable o replies Gone = Unit {0}
 
--- what C may call, of any of the three objects
+-- what a handle may hold when a call is made, of any of the three kinds of objects
 abbrev pub IsCallable : AnyHandleState → Type 0
 IsCallable = OfAny (IsContentCallable store_ghosts Document) (IsContentCallable queue_ghosts QueueReplies) (IsContentCallable program_ghosts ProgramReplies)
 
--- a call leaves a content of this object that C may call, and this was done
+-- after a call the handle holds `after`, with which a further call may be made, and `Done` holds of the call
 pub record LeavesContentCallable {O : Type 0} (o : Ghosts O) (replies : ReplyKind) (after : HandleState O) (Done : Type 0) : Type 0 where
   pub callable : IsContentCallable o replies after
   pub done : Done
 
--- a call leaves what C may call, of whichever object, and this was done
+-- after a call the handle holds `after`, of any kind of object, with which a further call may be made, and `Done` holds of the call
 pub record LeavesCallable (after : AnyHandleState) (Done : Type 0) : Type 0 where
   pub callable : IsCallable after
   pub done : Done
@@ -83,18 +85,18 @@ queue_session session = Queue (Session session)
 abbrev pub program_session : SessionOf ProgramObject → AnyHandleState
 program_session session = Program (Session session)
 
--- what C has is an open session of this service
+-- `content` is an open session of the service `r`, as `any` makes of it what a handle holds
 pub record IsSessionIn {O : Type 0} (any : SessionOf O → AnyHandleState) (r : Running O) (content : AnyHandleState) : Type 0 where
   pub session : SessionOf O
   pub of : IsOpenSessionOf r session
   pub is : content ≡ any session
 
--- this many boxes, with this in each, which C may call
+-- `boxes` are `count` boxes: in each stands what a further call may be made with, and `is` holds of it
 pub record AreBoxes (is : AnyHandleState → Type 0) (count : ℕ) (boxes : List (Box AnyHandleState Global)) : Type 0 where
   pub all : length boxes ≡ count
   pub each : All (λ (b : Box AnyHandleState Global). is b.value × IsCallable b.value) boxes
 
--- this many sessions of one service of this object, which opens from such a base
+-- `sessions` are `count` open sessions of one service of `object`, which starts from a base of which the property `base` holds
 pub record AreSessionsOf {O : Type 0} (object : O) (lines count : ℕ) (base : Base → Type 0) (sessions : List (SessionOf O)) : Type 0 where
   pub service : Running O
   pub object_is : service.object ≡ object
@@ -104,23 +106,24 @@ pub record AreSessionsOf {O : Type 0} (object : O) (lines count : ℕ) (base : B
   pub all : length sessions ≡ count
   pub each : All (IsOpenSessionOf service) sessions
 
--- what may be opened: an object of 64 to 16,384 lines, with 1 to 8 sessions
+-- the sizes with which an object may be opened: 64 to 16,384 lines, and 1 to 8 sessions, which is `count`
 pub record MayOpen (lines count : ℕ) : Type 0 where
   pub least : 64 ≤ lines
   pub most : lines ≤ 16384
   pub some : 1 ≤ count
   pub few : count ≤ 8
 
--- why no sessions are opened, as a number: the sizes are wrong; or they are right, and memory ran out, or the sessions' new queue did not take its
--- first entry
+-- why no sessions are opened, as the status `code`: 7 where the sizes are wrong; where they are right, 8 where memory ran out, or 2 where the
+-- sessions' new queue did not take its first entry
 abbrev pub Refuses : ℕ → ℕ → ℤ → Type 0
 Refuses lines count code = ((¬ MayOpen lines count) × (code ≡ pos 7)) ⊎ (MayOpen lines count × IsOpenCode code)
 
--- what C is answered where it opens sessions
+-- the status `code` that C is given where it opens `count` sessions of an object in this many lines: 0 where they are opened, or why they are not
 abbrev pub AnswersOpening : ℕ → ℕ → ℤ → Type 0
 AnswersOpening lines count code = (MayOpen lines count × (code ≡ pos 0)) ⊎ Refuses lines count code
 
--- this many boxes of sessions of one service of an object in this many lines that may be opened
+-- `boxes` are `count` boxes of sessions of one service of an object in this many lines; these sizes may be opened. `any` makes of a session what a
+-- handle holds.
 pub record AreOpened {O : Type 0} (any : SessionOf O → AnyHandleState) (lines count : ℕ) (boxes : List (Box AnyHandleState Global)) : Type 0 where
   pub may : MayOpen lines count
   pub service : Running O
@@ -128,41 +131,46 @@ pub record AreOpened {O : Type 0} (any : SessionOf O → AnyHandleState) (lines 
   pub lines_are : service.lines ≡ lines
   pub of : AreBoxes (IsSessionIn any service) count boxes
 
--- what is no session was called out of turn, and is as it was
+-- the call is refused as out of turn, and what the handle holds stays as it is
 abbrev pub IsNoTurn : {O : Type 0} → HandleState O → Called → HandleState O → Type 0
 IsNoTurn before called after = (called ≡ OutOfTurn) × (after ≡ before)
 
--- a call of this operation, in this many tries, had this result
+-- The operation `op`, asked of what a handle holds, in at most `tries` tries, has the result `called`, and `reply` is what stands in the reply's
+-- buffer then. A session stays a session; of anything else the call is refused as out of turn.
 abbrev pub ContentCalls : {O : Type 0} → Ghosts O → List ℕ → ℕ → Called → List ℕ → HandleState O → HandleState O → Type 0
 ContentCalls o op tries called reply (Session before) (Session after) = CallsIn o.only_reads op tries before called after reply
 ContentCalls o op tries called reply (Session before) after = ⊥
 ContentCalls o op tries called reply before after = IsNoTurn before called after
 
--- a call of this operation, in this many tries, had this result, by a session of any of the three objects or by what is no session
+-- the operation `op`, asked of what a handle holds, of any kind of object, in at most `tries` tries, has the result `called`, and leaves `after` and
+-- `reply`; of what is no session the call is refused as out of turn
 abbrev pub CallHasResult : List ℕ → ℕ → AnyHandleState → Called → AnyHandleState → List ℕ → Type 0
 CallHasResult op tries before called after reply =
     OfBoth (ContentCalls store_ghosts op tries called reply) (ContentCalls queue_ghosts op tries called reply)
     (ContentCalls program_ghosts op tries called reply) before after
 
--- finishing the linked entry, in this many attempts, had this result
+-- Finishing the linked entry of the session that a handle holds, in at most `tries` attempts, has the result `called`, and `reply` is what stands in
+-- the reply's buffer then. A session stays a session; of anything else the call is refused as out of turn.
 abbrev pub ContentFinishes : {O : Type 0} → ℕ → Called → List ℕ → HandleState O → HandleState O → Type 0
 ContentFinishes tries called reply (Session before) (Session after) = FinishesIn tries before called after reply
 ContentFinishes tries called reply (Session before) after = ⊥
 ContentFinishes tries called reply before after = IsNoTurn before called after
 
--- finishing the linked entry, in this many attempts, had this result, by a session of any of the three objects or by what is no session
+-- finishing the linked entry, of what a handle holds of any kind of object, in at most `tries` attempts, has the result `called`, and leaves `after`
+-- and `reply`; of what is no session the call is refused as out of turn
 abbrev pub FinishesSession : ℕ → AnyHandleState → Called → AnyHandleState → List ℕ → Type 0
 FinishesSession tries before called after reply =
     OfBoth (ContentFinishes tries called reply) (ContentFinishes tries called reply) (ContentFinishes tries called reply) before after
 
--- as many tries as are asked for, but at least 1 and at most 2^20
+-- `tries` is how many tries a call makes where C asks for `asked`: as many, but at least 1 and at most 2^20
 pub record IsTriesFor (asked tries : ℕ) : Type 0 where
   pub some : 1 ≤ tries
   pub most : tries ≤ 2 ^ 20
   pub few : (tries ≤ asked) ⊎ (tries ≡ 1)
   pub all : (asked ≤ tries) ⊎ (tries ≡ 2 ^ 20)
 
--- what C is answered: the number of the result of these tries, which left what may be called
+-- `code` is the status of the result `called` of a call for which C asked for `asked` tries. `come_to` relates the tries that were allowed, that
+-- result, and what the handle holds after the call, with which a further call may be made.
 pub record AnswersTries (asked : ℕ) (come_to : ℕ → Called → AnyHandleState → Type 0) (code : ℤ) : Type 0 where
   pub tries : ℕ
   pub asked_for : IsTriesFor asked tries

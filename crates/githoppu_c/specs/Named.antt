@@ -5,7 +5,7 @@ use Rattle.std.proofs.lemmas.List.{length-replicate}
 use Rattle.std.proofs.lemmas.List.Elements.{All-replicate}
 use Rattle.cx_base.specs.Memory.{Words}
 
--- each operation is answered by zeros, and changes nothing
+-- the step of an object whose operations all leave the image as it is, and are answered by 144 zeros
 abbrev pub idle_step : List ℕ → List ℕ → List ℕ × List ℕ
 idle_step image op = (image, replicate 144 0)
 

@@ -11,27 +11,29 @@ use Rattle.githoppu_c.specs.Contents.{AreBoxes, IsSessionIn}
 use Rattle.githoppu_c.specs.declared.content.AnyHandleState.{AnyHandleState}
 use Rattle.c_sessions.specs.declared.session.Session.{Session}
 
--- 1 to 8 sessions
+-- `count` sessions may be opened: 1 to 8
 pub record AreFew (count : ℕ) : Type 0 where
   pub some : 1 ≤ count
   pub few : count ≤ 8
 
--- the words are refused, with the number of their fault: of their head, or of what stands after it
+-- recovery refuses `words`, and `code` is the status for the fault: the words begin with no head of this kind of object, or `faulty` holds of the
+-- fault
 pub record AreWordsRefusedBy (kind : ℕ) (faulty : WordsFault → Type 0) (words : List ℕ) (code : ℤ) : Type 0 where
   pub fault : WordsFault
   pub because : IsHeadFault kind words fault ⊎ faulty fault
   pub is : code ≡ fault_code fault
 
--- words with a head are refused, with the number of their fault
+-- `code` is the status for some fault of which `faulty` holds
 abbrev pub IsRefusal : (WordsFault → Type 0) → ℤ → Type 0
 IsRefusal faulty code = (fault : WordsFault) × faulty fault × (code ≡ fault_code fault)
 
--- why nothing is recovered: there would be no sessions or too many, the words are refused, memory ran out, or the sessions' new queue did not take its
--- first entry
+-- why `count` sessions are not recovered from `words`, as the status `code`: 7 where they are not 1 to 8; else the words are refused, or memory ran
+-- out, or the sessions' new queue did not take its first entry
 abbrev pub RefusesWords : ℕ → (WordsFault → Type 0) → List ℕ → ℕ → ℤ → Type 0
 RefusesWords kind faulty words count code = ((¬ AreFew count) × (code ≡ pos 7)) ⊎ (AreFew count × (AreWordsRefusedBy kind faulty words code ⊎ IsOpenCode code))
 
--- this many boxes of sessions of one service that opens from a base that is taken up from words
+-- `boxes` are `count` boxes of sessions of one service, which starts from a base of which `taken` holds. `any` makes of a session what a handle
+-- holds.
 pub record AreRecovered {O : Type 0} (any : Session O → AnyHandleState) (taken : Base → Type 0) (count : ℕ) (boxes : List (Box AnyHandleState Global)) : Type 0 where
   pub few : AreFew count
   pub service : Running O
@@ -39,6 +41,7 @@ pub record AreRecovered {O : Type 0} (any : Session O → AnyHandleState) (taken
   pub said : taken service.base
   pub of : AreBoxes (IsSessionIn any service) count boxes
 
--- what C is answered where it recovers sessions from words
+-- the status `code` that C is given where it recovers `count` sessions from `words`: 0 where they are recovered, from a base of which `taken` holds,
+-- or why they are not
 abbrev pub Recovers : ℕ → (Base → Type 0) → (WordsFault → Type 0) → List ℕ → ℕ → ℤ → Type 0
 Recovers kind taken faulty words count code = (AreFew count × ((base : Base) × taken base) × (code ≡ pos 0)) ⊎ RefusesWords kind faulty words count code

@@ -7,7 +7,7 @@ use Rattle.std.specs.Global.{Global}
 use Rattle.std_heap.specs.contracts.GlobalAllocator.TheImpl.{ghosts}
 use Rattle.githoppu_c.specs.contracts.content.AnyHandleState.{the_row}
 
--- a handle owns the box of its content
+-- a handle owns a box from the allocator `alloc`: the memory at its pointer, and what stands there
 abbrev pub handle_owns : Global → Ptr → the_row.Denot → Fml
 handle_owns alloc = box_owns (ghosts.dealloc_token alloc) the_row
 

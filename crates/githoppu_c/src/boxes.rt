@@ -14,12 +14,12 @@ use fifo_object::Fifo;
 use program_object::ProgramObject;
 use std::alloc::{AllocError, Global};
 
-/// A session of an object that C may have.
+/// A type of session to which C may hold a pointer: a session of a document store, of a queue, or of a program's object.
 pub trait SessionOfC: Drop {
-    /// The session as C has it.
+    /// What stands behind a pointer of C's to this session: the session, marked with the kind of its object.
     ghost as_any: { Self → any_type };
 
-    /// The session as C has it.
+    /// What stands behind a pointer of C's to this session: the session, marked with the kind of its object.
     fn any(self) -> AnyHandleState
         ensures { result ≡ as_any self };
 }
@@ -48,7 +48,7 @@ impl SessionOfC for Session<ProgramObject> {
     }
 }
 
-/// A box for each session. `Err` is NO_MEMORY.
+/// Puts each session into a box of its own, in the same order, marked with the kind of its object. `Err` is the status NO_MEMORY.
 pub fn boxed<S: SessionOfC>(
     alloc: Global,
     sessions: Vec<S>,
@@ -61,7 +61,7 @@ pub fn boxed<S: SessionOfC>(
     }
 }
 
-/// Each session in a box of its own. `Err` means out of memory.
+/// Puts each session into a box of its own, in the same order, marked with the kind of its object. `Err` means out of memory.
 fn in_boxes<S: SessionOfC>(
     alloc: Global,
     sessions: Vec<S>,

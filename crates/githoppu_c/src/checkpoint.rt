@@ -11,8 +11,10 @@ use c_images::{base_image_words, base_words, write_base};
 use c_sessions::{Session, SessionCheckpoint, Tries};
 use cx_base::Object;
 
-/// Has a session take an image, where the buffer has as many words as one of one region, which is `needed`; else nothing is changed. The region is loaded
-/// into the words after the head.
+/// Has the session write an image of its object into `words`, in 16 tries, while other sessions go on. Such an image is a head of 8 words and one
+/// region, which is a whole replica. `needed` becomes the number of its words. Where `words` has another length, the answer is BAD_SIZE, and nothing
+/// else is changed. The answers are DONE, AGAIN where other sessions were in the way in each try, STOPPED at the step limit, and OUT_OF_TURN where
+/// the session is stopped or has a linked entry.
 pub fn take_to<O: Object>(
     session: &mut Session<O>,
     kind: u64,
@@ -29,13 +31,16 @@ pub fn take_to<O: Object>(
     let callers = session.callers();
     let count = base_image_words(lines);
     *needed = count;
+    // the buffer has to be exactly as long as the image
     if words.len() as u64 != count {
         return BAD_SIZE;
     }
+    // the session writes the replica behind the place of the head
     let region = base_words(lines) as usize;
     let tries = Tries { count: 16 };
     match session.checkpoint(&mut words[8..8 + region], tries) {
         SessionCheckpoint::At(place) => {
+            // the head says what the replica is of, and at which place
             write_base(kind, callers, lines, place, words);
             DONE
         }

@@ -8,26 +8,27 @@ use c_images::WordsFault;
 use c_sessions::{Called, OpenFault, SessionCatchUp};
 use recovery::ImageFault;
 
-/// Done, and the reply is there.
+/// The call did what it was asked for, and what it tells is written.
 pub const DONE: i32 = 0;
 /// An operation is linked and not answered yet.
 pub const PENDING: i32 = 1;
 /// Others were in the way: a call linked nothing, and a closing or an image is to be asked for again. Of an opening or a recovery: the sessions'
 /// new queue did not take its first entry.
 pub const AGAIN: i32 = 2;
-/// Another session needs the entries in all cells of this one.
+/// Nothing is linked: the session has no free cell in the log, since another session needs the entries in its cells.
 pub const FULL: i32 = 3;
-/// There is no further ticket.
+/// Nothing is linked: all tickets of the log are used.
 pub const WORN: i32 = 4;
 /// The session has reached its step limit.
 pub const STOPPED: i32 = 5;
-/// A call that the state of what C holds does not take.
+/// The call is refused and changes nothing: what the handle holds is not in a state for it. For instance, an operation is asked of what is no
+/// session, or of a session that has a linked entry.
 pub const OUT_OF_TURN: i32 = 6;
-/// The lines, the sessions or the words are not as many as there may be, a session's number is above 7, or the fuel is above 2^20.
+/// A size is wrong: the number of lines, of sessions or of words, the number of a session (above 7), or the fuel (above 2^20).
 pub const BAD_SIZE: i32 = 7;
 /// Out of memory.
 pub const NO_MEMORY: i32 = 8;
-/// Other sessions are not closed.
+/// The session is closed, and other sessions of its object are not closed yet.
 pub const OTHERS: i32 = 11;
 /// A caller was missing when the last session was closed.
 pub const LOST: i32 = 12;
@@ -41,14 +42,14 @@ pub const IMAGE_SIZE: i32 = 15;
 pub const IMAGE_ROOT: i32 = 16;
 /// The object's version is not known.
 pub const IMAGE_VERSION: i32 = 17;
-/// The place of the root's replica is not the root's.
+/// The replica that the root names says another place than the root.
 pub const IMAGE_PLACE: i32 = 18;
 /// The results or the object are not lawful, or a result keeps no reply of such an object.
 pub const IMAGE_BODY: i32 = 19;
 /// A result has a number above the place.
 pub const IMAGE_NUMBERS: i32 = 20;
 
-/// The number of a call's result.
+/// The status that C is given for `called`, the result of an operation or of finishing one.
 pub fn code_of(called: Called) -> i32
     ensures { result ≡ spec.code_of called }
 {
@@ -63,7 +64,7 @@ pub fn code_of(called: Called) -> i32
     }
 }
 
-/// The number of why no sessions are opened whose sizes are right.
+/// The status for `fault`: why no sessions were opened, though their sizes were right.
 pub fn open_code(fault: OpenFault) -> i32
     ensures { result ≡ spec.open_code fault }
 {
@@ -79,7 +80,7 @@ pub const BEHIND: i32 = 23;
 /// The words are no program.
 pub const BAD_PROGRAM: i32 = 25;
 
-/// The number of the result of catching up.
+/// The status that C is given for `sight`, the result of catching up with a place.
 pub fn sight_code(sight: SessionCatchUp) -> i32
     ensures { result ≡ places.sight_code sight }
 {
@@ -91,7 +92,7 @@ pub fn sight_code(sight: SessionCatchUp) -> i32
     }
 }
 
-/// The number of why nothing is taken up from words.
+/// The status for `fault`: why no service can start from the words of an image.
 pub fn fault_code(fault: WordsFault) -> i32
     ensures { result ≡ spec.fault_code fault }
 {
@@ -103,7 +104,7 @@ pub fn fault_code(fault: WordsFault) -> i32
     }
 }
 
-/// The number of recovery's refusal.
+/// The status for `fault`: the check of recovery that an image does not pass, or that memory ran out.
 fn image_code(fault: ImageFault) -> i32
     ensures { result ≡ spec.image_code fault }
 {

@@ -28,18 +28,22 @@ use recovery::closed_tables_are_whole;
 use std::alloc::Global;
 use std::mem;
 
-/// A session of an object; a service that is to be closed with all its callers, once there is memory; what the last session found of a service that it
-/// could not close yet, which is to be closed again; what a closed service left; or nothing any more.
+/// What a handle of C's holds, of an object `O`. A call that the state does not take is refused as out of turn, and changes nothing.
 #[derive(Drop)]
 pub enum HandleState<O: Object> {
+    /// An open session.
     Session(Session<O>),
+    /// A service with all its callers, which was not closed since memory ran out. It is to be closed again.
     Kept(Kept<O>),
+    /// What the last session found of a service that it could not close yet. It is to be closed again.
     Unclosed(Unclosed<O>),
+    /// What a closed service left: images are written of it.
     Closed(Remains),
+    /// Nothing any more: the session was closed while other sessions of its service were not.
     Gone,
 }
 
-/// What C has: a content of a document store, of a queue, or of a program's object.
+/// What a handle of C's holds, by the kind of object: a document store, a queue, or the object of a program.
 #[derive(Drop)]
 pub enum AnyHandleState {
     Documents(HandleState<DocStore>),
@@ -48,7 +52,8 @@ pub enum AnyHandleState {
 }
 
 impl<O: OfC> HandleState<O> {
-    /// Does an operation, in at most the given number of tries.
+    /// Does the operation `op`, in at most `tries` tries. After `Done` its reply stands in `reply`. Where the handle holds no session the answer is
+    /// `OutOfTurn`, and the handle stays as it is.
     pub fn call(&mut self, op: &OpWords, reply: &mut OpWords, tries: Tries) -> Called
         requires callable { IsContentCallable O.Object O.replies_kept self.old }
         ensures { LeavesContentCallable O.Object O.replies_kept self.new (ContentCalls O.Object op.now tries.count result reply.new self.old self.new) }
@@ -59,7 +64,8 @@ impl<O: OfC> HandleState<O> {
         }
     }
 
-    /// Drives the linked entry to its answer, in at most the given number of turns.
+    /// Drives the linked entry of the session on, in at most `tries` attempts. After `Done` the entry is answered, and its reply stands in `reply`.
+    /// Where the handle holds no session the answer is `OutOfTurn`, and the handle stays as it is.
     pub fn finish(&mut self, reply: &mut OpWords, tries: Tries) -> Called
         requires callable { IsContentCallable O.Object O.replies_kept self.old }
         ensures { LeavesContentCallable O.Object O.replies_kept self.new (ContentFinishes tries.count result reply.new self.old self.new) }
@@ -70,7 +76,7 @@ impl<O: OfC> HandleState<O> {
         }
     }
 
-    /// The place of a session, with which another session may catch up. `None` where this is no session.
+    /// The place of the session: who catches up with it sees all that this session was answered. `None` where the handle holds no session.
     pub fn place(&self) -> Option<u64>
         ensures { ContentMayHavePlace self.now result }
     {
@@ -80,7 +86,8 @@ impl<O: OfC> HandleState<O> {
         }
     }
 
-    /// Has a session catch up with the place of another session. What is no session is called out of turn.
+    /// Has the session catch up with `place`, the place of another session of its service. From `Caught` on its answers stand at or above `place`.
+    /// Where the handle holds no session the answer is `OutOfTurn`, and the handle stays as it is.
     pub fn catch_up(&mut self, place: u64) -> SessionCatchUp
         requires callable { IsContentCallable O.Object O.replies_kept self.old }
         ensures { LeavesContentCallable O.Object O.replies_kept self.new (ContentSees place result self.old self.new) }
@@ -91,8 +98,10 @@ impl<O: OfC> HandleState<O> {
         }
     }
 
-    /// Has a session take an image while others go on, where the buffer has as many words as one of one region, which is `needed`. `base_of`
-    /// takes up what is taken, unless memory runs out. What is no session is called out of turn, and `needed` is 0.
+    /// Has the session write an image of its object into `words`, while other sessions go on. Such an image is a head of 8 words and one region,
+    /// which is a whole replica. `needed` becomes the number of its words; where `words` has another length the answer is BAD_SIZE, and nothing else
+    /// is changed. After DONE `base_of` of `c_images` reads the same place and replica from `words`, unless memory runs out. Where the handle holds
+    /// no session the answer is OUT_OF_TURN, no word is written, and `needed` is 0.
     pub fn checkpoint(&mut self, words: &mut [u64], needed: &mut u64) -> i32
         requires callable { IsContentCallable O.Object O.replies_kept self.old }
         ensures checkpoints { LeavesContentCallable O.Object O.replies_kept self.new (ContentCheckpoints O.Object O.KIND words.old words.new needed.new result self.old self.new) }
@@ -100,7 +109,7 @@ impl<O: OfC> HandleState<O> {
     {
         match self {
             HandleState::Session(session) => {
-                // an image that a session took is taken up again, unless memory runs out
+                // a law: `base_of` refuses an image that a session took only where memory runs out, and else reads the replica that was taken
                 taken_images_are_taken_up::<O>();
                 take_to(session, O::KIND, words, needed)
             }
@@ -111,7 +120,7 @@ impl<O: OfC> HandleState<O> {
         }
     }
 
-    /// Closes a session, or what is still to be closed.
+    /// Closes the session, or what an earlier closing left to be closed. The answer is the status of the call; the handle then holds what is left.
     pub fn close(&mut self, alloc: Global) -> i32
         requires callable { IsContentCallable O.Object O.replies_kept self.old }
         ensures { LeavesContentCallable O.Object O.replies_kept self.new (ContentCloses O.Object result self.old self.new) }
@@ -121,7 +130,7 @@ impl<O: OfC> HandleState<O> {
         code
     }
 
-    /// Closes what a handle holds, if it can be closed: what it holds then, and the status of the call.
+    /// Closes what a handle holds, where it can be closed. The result is what the handle holds then, and the status of the call.
     fn closed(self, alloc: Global) -> (HandleState<O>, i32)
         requires callable { IsContentCallable O.Object O.replies_kept self }
         ensures callable { IsContentCallable O.Object O.replies_kept result.0 }
@@ -129,17 +138,21 @@ impl<O: OfC> HandleState<O> {
     {
         match self {
             HandleState::Session(session) => left(session.close(alloc)),
+            // memory ran out when the service was closed: it is tried again
             HandleState::Kept(kept) => match close_kept(alloc, kept) {
                 Ok(remains) => (HandleState::Closed(remains), DONE),
                 Err(kept) => (HandleState::Kept(kept), NO_MEMORY),
             },
             HandleState::Unclosed(rest) => left(close_rest(alloc, rest)),
+            // what is closed, or gone, stays as it is
             other => (other, OUT_OF_TURN),
         }
     }
 
-    /// Writes what a crash leaves, by choice, where the buffer has as many words as an image, which is `needed`. What is written is taken up again,
-    /// unless memory runs out. What is not closed is called out of turn, and `needed` is 0.
+    /// Writes an image that a crash could leave of the closed service into `words`: `choice` picks the root, and the values of the dirty words.
+    /// `needed` becomes the number of words of the image; where `words` has another length the answer is BAD_SIZE, and no word is written. After DONE
+    /// `base_of` of `c_images` refuses `words` only where memory runs out. Where the handle holds no closed service the answer is OUT_OF_TURN, no
+    /// word is written, and `needed` is 0.
     pub fn image(&self, choice: u64, words: &mut [u64], needed: &mut u64) -> i32
         requires callable { IsContentCallable O.Object O.replies_kept self.now }
         ensures images { ContentImages O.KIND choice words.old words.new needed.new result self.now }
@@ -147,11 +160,11 @@ impl<O: OfC> HandleState<O> {
     {
         match self {
             HandleState::Closed(remains) => {
-                // a closed service leaves all that an image is made of
+                // a law: a closed service leaves all that an image is made of
                 closed_tables_are_whole::<O>();
-                // the words that are written are taken up again, unless memory runs out
+                // a law: `base_of` refuses an image that is written here only where memory runs out
                 written_images_are_taken_up::<O>();
-                // what is taken up of them has replies of the object's kind only
+                // a law: each result in what `base_of` reads keeps a reply of the object's kind, where the object's steps give such replies only
                 written_images_keep_replies::<O>();
                 write_to(remains, O::KIND, choice, words, needed)
             }
@@ -163,7 +176,7 @@ impl<O: OfC> HandleState<O> {
     }
 }
 
-/// What a handle holds after its session was closed with this result, and the status of the call.
+/// What a handle holds after its session was closed with the result `closing`, and the status of that call.
 fn left<O: Object>(closing: Closing<O>) -> (HandleState<O>, i32)
     ensures { (result.0 ≡ content_left closing) × (result.1 ≡ closing_code closing) }
 {
@@ -178,7 +191,8 @@ fn left<O: Object>(closing: Closing<O>) -> (HandleState<O>, i32)
 }
 
 impl AnyHandleState {
-    /// Does an operation, in at most the given number of tries.
+    /// Does the operation `op`, in at most `tries` tries. After `Done` its reply stands in `reply`. Where the handle holds no session the answer is
+    /// `OutOfTurn`, and the handle stays as it is.
     pub fn call(&mut self, op: &OpWords, reply: &mut OpWords, tries: Tries) -> Called
         requires callable { IsCallable self.old }
         ensures { LeavesCallable self.new (CallHasResult op.now tries.count self.old result self.new reply.new) }
@@ -190,7 +204,8 @@ impl AnyHandleState {
         }
     }
 
-    /// Drives the linked entry to its answer, in at most the given number of turns.
+    /// Drives the linked entry of the session on, in at most `tries` attempts. After `Done` the entry is answered, and its reply stands in `reply`.
+    /// Where the handle holds no session the answer is `OutOfTurn`, and the handle stays as it is.
     pub fn finish(&mut self, reply: &mut OpWords, tries: Tries) -> Called
         requires callable { IsCallable self.old }
         ensures { LeavesCallable self.new (FinishesSession tries.count self.old result self.new reply.new) }
@@ -202,7 +217,7 @@ impl AnyHandleState {
         }
     }
 
-    /// The place of a session, with which another session may catch up. `None` where this is no session.
+    /// The place of the session: who catches up with it sees all that this session was answered. `None` where the handle holds no session.
     pub fn place(&self) -> Option<u64>
         ensures { MayHavePlace self.now result }
     {
@@ -213,7 +228,8 @@ impl AnyHandleState {
         }
     }
 
-    /// Has a session catch up with the place of another session. What is no session is called out of turn.
+    /// Has the session catch up with `place`, the place of another session of its service. From `Caught` on its answers stand at or above `place`.
+    /// Where the handle holds no session the answer is `OutOfTurn`, and the handle stays as it is.
     pub fn catch_up(&mut self, place: u64) -> SessionCatchUp
         requires callable { IsCallable self.old }
         ensures { LeavesCallable self.new (ContentCatchesUp place self.old result self.new) }
@@ -225,7 +241,8 @@ impl AnyHandleState {
         }
     }
 
-    /// Has a session take an image while others go on.
+    /// Has the session write an image of its object into `words`, while other sessions go on, and the number of words that it takes into `needed`.
+    /// The answer is the status of the call: DONE where the image is written, and OUT_OF_TURN, with 0 in `needed`, where the handle holds no session.
     pub fn checkpoint(&mut self, words: &mut [u64], needed: &mut u64) -> i32
         requires callable { IsCallable self.old }
         ensures checkpoints { LeavesCallable self.new (CheckpointsSession self.old self.new words.old words.new needed.new result) }
@@ -235,14 +252,14 @@ impl AnyHandleState {
             AnyHandleState::Documents(content) => content.checkpoint(words, needed),
             AnyHandleState::Queue(content) => content.checkpoint(words, needed),
             AnyHandleState::Program(content) => {
-                // an image that a session took is taken up again, unless memory runs out
+                // a law: `base_of` refuses an image that a session took only where memory runs out, and else reads the replica that was taken
                 taken_images_are_taken_up::<ProgramObject>();
                 content.checkpoint(words, needed)
             }
         }
     }
 
-    /// Closes a session, or what is still to be closed.
+    /// Closes the session, or what an earlier closing left to be closed. The answer is the status of the call; the handle then holds what is left.
     pub fn close(&mut self, alloc: Global) -> i32
         requires callable { IsCallable self.old }
         ensures { LeavesCallable self.new (ClosesAs self.old self.new result) }
@@ -254,7 +271,9 @@ impl AnyHandleState {
         }
     }
 
-    /// Writes what a crash leaves of what is closed, by choice.
+    /// Writes an image that a crash could leave of the closed service into `words`, and the number of words that it takes into `needed`. `choice`
+    /// picks the root, and the values of the dirty words. The answer is the status of the call: DONE where the image is written, and OUT_OF_TURN,
+    /// with 0 in `needed`, where the handle holds no closed service.
     pub fn image(&self, choice: u64, words: &mut [u64], needed: &mut u64) -> i32
         requires callable { IsCallable self.now }
         ensures images { Images self.now choice words.old words.new needed.new result }
@@ -264,7 +283,7 @@ impl AnyHandleState {
             AnyHandleState::Documents(content) => content.image(choice, words, needed),
             AnyHandleState::Queue(content) => content.image(choice, words, needed),
             AnyHandleState::Program(content) => {
-                // the words that are written are taken up again, unless memory runs out
+                // a law: `base_of` refuses an image that is written here only where memory runs out
                 written_images_are_taken_up::<ProgramObject>();
                 content.image(choice, words, needed)
             }
@@ -272,6 +291,7 @@ impl AnyHandleState {
     }
 }
 
+// Does nothing, and compiles only where values of `T` may go to another thread.
 const fn goes_to_a_thread<T: Send>() {}
 
 /// A check by the compiler, which does nothing: what stands behind a pointer that C holds may go to another thread, in each of its cases.

@@ -9,7 +9,8 @@ use crate::raw_box::RawBox;
 use std::alloc::Global;
 use std::marker::Model;
 
-/// What C holds of the library: a pointer to the box of a content.
+/// What C holds of the library: the pointer `at` to a box from the allocator `alloc`. `content` is what the box has: a session, or what its closing
+/// left.
 #[repr(C)]
 #[derive(Drop)]
 pub struct Handle {
@@ -23,14 +24,14 @@ impl Model for Handle {
 }
 
 impl Handle {
-    /// The box that the handle was made of.
+    /// The box that the handle points to. The handle is used up.
     pub fn into_box(self) -> Box<AnyHandleState>
         ensures { result.value ≡ self.content }
     {
         self.into_raw_box().into_box()
     }
 
-    /// The handle as a raw box, which its content can be taken from.
+    /// The handle as the pointer and the allocator of its box, from which the box is made again.
     fn into_raw_box(self) -> RawBox<AnyHandleState, Global>
         ensures { result.value ≡ self.content }
     {

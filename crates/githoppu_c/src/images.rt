@@ -7,14 +7,18 @@ use crate::codes::{BAD_SIZE, DONE};
 use c_images::{image_words, write_image};
 use cx_table::Remains;
 
-/// The kinds of objects in images.
+/// The kind of object that the head of an image names, of a document store.
 pub const DOCUMENTS: u64 = 1;
 
+/// The kind of object that the head of an image names, of a queue.
 pub const QUEUE: u64 = 2;
 
+/// The kind of object that the head of an image names, of the object of a program.
 pub const PROGRAM: u64 = 3;
 
-/// Writes what a crash leaves, by choice, where the buffer has as many words as an image, which is `needed`; else no word is written.
+/// Writes an image that a crash could leave of a closed service into `words`. `remains` is what the service left, and `choice` picks the root and the
+/// values of the dirty words. `needed` becomes the number of words of the image. The answer is DONE, or BAD_SIZE where `words` has another length:
+/// then no word is written.
 pub fn write_to(
     remains: &Remains,
     kind: u64,

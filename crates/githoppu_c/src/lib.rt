@@ -53,13 +53,13 @@ use recovery::Outcome;
 use std::alloc::Global;
 use std::ptr;
 
-/// The most tries of a call.
+// The most tries that a call makes.
 const MOST: u64 = 1 << 20;
 
-/// The version of the library: a million times the first number, a thousand times the second, and the third. Here 0.5.0.
+// The version of the library, 0.5.0: a million times the first number, a thousand times the second, and the third.
 const VERSION: u64 = 5000;
 
-/// How many tries a call makes that asks for this many: at least one and not too many.
+/// How many tries a call makes where C asks for `asked` tries: as many, but at least 1 and at most 2^20.
 fn tries_of(asked: u64) -> Tries
     ensures { IsTriesFor asked result.count }
 {
@@ -68,7 +68,8 @@ fn tries_of(asked: u64) -> Tries
     }
 }
 
-/// Opens an empty document store in `lines` lines, and puts a session into each slot. Where it is refused, no slot is written.
+/// Opens an empty document store in `lines` lines, and puts the pointer to a session into each slot of `sessions`. The answer is DONE; or it is
+/// BAD_SIZE, NO_MEMORY or AGAIN, and no slot is written.
 #[unsafe(no_mangle)]
 pub extern "C" fn githoppu_open(alloc: Global, lines: u64, sessions: &mut [*mut u8]) -> i32
     ensures { AnswersOpening lines (length sessions.old) result }
@@ -82,7 +83,8 @@ pub extern "C" fn githoppu_open(alloc: Global, lines: u64, sessions: &mut [*mut 
     }
 }
 
-/// Opens an empty queue in `lines` lines, and puts a session into each slot. Where it is refused, no slot is written.
+/// Opens an empty queue in `lines` lines, and puts the pointer to a session into each slot of `sessions`. The answer is DONE; or it is BAD_SIZE,
+/// NO_MEMORY or AGAIN, and no slot is written.
 #[unsafe(no_mangle)]
 pub extern "C" fn githoppu_open_queue(alloc: Global, lines: u64, sessions: &mut [*mut u8]) -> i32
     ensures { AnswersOpening lines (length sessions.old) result }
@@ -96,8 +98,9 @@ pub extern "C" fn githoppu_open_queue(alloc: Global, lines: u64, sessions: &mut 
     }
 }
 
-/// Opens an empty object in `lines` lines whose operations are runs of a program of at most `fuel` instructions each, and puts a session into each slot. The
-/// first `instructions` words of the program are instructions, the others constants. Where it is refused, no slot is written.
+/// Opens an empty object in `lines` lines whose operations are runs of a program of at most `fuel` instructions each, and puts the pointer to a
+/// session into each slot of `sessions`. The first `instructions` words of `program` are instructions, the others constants. The answer is DONE; or
+/// it is BAD_SIZE, BAD_PROGRAM, NO_MEMORY or AGAIN, and no slot is written.
 #[unsafe(no_mangle)]
 pub extern "C" fn githoppu_open_program(
     alloc: Global,
@@ -118,7 +121,9 @@ pub extern "C" fn githoppu_open_program(
     }
 }
 
-/// Writes why words are no program: the number of the kind of the first fault, and the number of the instruction at fault; 0 and 0 where they are a program.
+/// Tells why the words `program` are no program. The answer is BAD_PROGRAM where they are none: then `fault` is the number of the kind of the first
+/// fault, and `at` that of the instruction at fault. It is DONE where they are a program: then both are 0. It is NO_MEMORY where memory ran out: then
+/// nothing is written.
 #[unsafe(no_mangle)]
 pub extern "C" fn githoppu_program_fault(
     alloc: Global,
@@ -146,7 +151,8 @@ pub extern "C" fn githoppu_program_fault(
     }
 }
 
-/// Writes the fingerprint of a program, which stands in its images.
+/// Writes the fingerprint of the program with this fuel, which stands in its images. The answer is DONE; or it is BAD_SIZE where `fuel` is above
+/// 2^20, BAD_PROGRAM or NO_MEMORY, and nothing is written.
 #[unsafe(no_mangle)]
 pub extern "C" fn githoppu_program_fingerprint(
     alloc: Global,
@@ -169,8 +175,8 @@ pub extern "C" fn githoppu_program_fingerprint(
     }
 }
 
-/// Does an operation, in at most `tries` tries, which counts as 1 to 2^20. The reply is written where the call is done, and may
-/// have any words where it is not. The session stands at `out` afterwards.
+/// Does the operation `op`, in at most `tries` tries, where 0 counts as 1 and more than 2^20 as 2^20. The reply is written where the answer is DONE;
+/// else `reply` may have any words. The pointer to the session stands at `out` afterwards.
 #[unsafe(no_mangle)]
 pub extern "C" fn githoppu_call(
     session: Handle,
@@ -188,8 +194,8 @@ pub extern "C" fn githoppu_call(
     code_of(called)
 }
 
-/// Drives the linked entry to its answer, in at most `tries` turns, which counts as 1 to 2^20. The reply is written where the call is done, and
-/// may have any words where it is not. The session stands at `out` afterwards.
+/// Drives the linked entry to its answer, in at most `tries` attempts, where 0 counts as 1 and more than 2^20 as 2^20. The reply is written where the
+/// answer is DONE; else `reply` may have any words. The pointer to the session stands at `out` afterwards.
 #[unsafe(no_mangle)]
 pub extern "C" fn githoppu_finish(
     session: Handle,
@@ -215,6 +221,7 @@ pub extern "C" fn githoppu_close(alloc: Global, session: Handle, out: &mut *mut 
 {
     let mut content = session.into_box();
     let code = content.close(alloc);
+    // the session is closed, and nothing is left for C to hold
     if code == OTHERS {
         drop(content);
         *out = ptr::null_mut();
@@ -224,9 +231,11 @@ pub extern "C" fn githoppu_close(alloc: Global, session: Handle, out: &mut *mut 
     code
 }
 
-/// Writes what a crash leaves of a closed object, by choice, where the buffer has as many words as an image, which is `needed`. Where it is
-/// done, a recovery of the words with 1 to 8 sessions answers DONE, or NO_MEMORY (`GITHOPPU_NO_MEMORY`) where memory runs out, or AGAIN where the new
-/// sessions' queue did not take its first entry; and `githoppu_outcome` of a store's or a queue's words answers DONE or NO_MEMORY for each session.
+/// Writes an image that a crash could leave of a closed object into `words`: `choice` picks the root, and the values of the dirty words. `needed`
+/// becomes the number of words of the image, which `words` has to have; where the handle holds no closed object, `needed` is 0, and the answer is
+/// OUT_OF_TURN. Where the answer is DONE, a recovery of the words with 1 to 8 sessions answers DONE, or NO_MEMORY (`GITHOPPU_NO_MEMORY`) where memory
+/// runs out, or AGAIN where the new sessions' queue did not take its first entry; and `githoppu_outcome` of a store's or a queue's words answers DONE
+/// or NO_MEMORY for each session. The pointer to what the handle holds stands at `out` afterwards.
 #[unsafe(no_mangle)]
 pub extern "C" fn githoppu_image(
     closed: Handle,
@@ -245,10 +254,11 @@ pub extern "C" fn githoppu_image(
     code
 }
 
-/// Has a session take an image of its object while others go on, where the buffer has as many words as one of one region, which is `needed`: the image
-/// after all that was answered before. Where each result in the words keeps a reply, a recovery of them with 1 to 8 sessions answers DONE, or
-/// NO_MEMORY (`GITHOPPU_NO_MEMORY`) where memory runs out, or AGAIN where the new sessions' queue did not take its first entry. The session stands at `out`
-/// afterwards.
+/// Has a session write an image of its object into `words`, while other sessions go on: the image after all that was answered before. `needed`
+/// becomes the number of words of the image, which has one region only, and `words` has to have as many; where the handle holds no session, `needed`
+/// is 0, and the answer is OUT_OF_TURN. Where the answer is DONE and each result in the words keeps a reply, a recovery of them with 1 to 8 sessions
+/// answers DONE, or NO_MEMORY (`GITHOPPU_NO_MEMORY`) where memory runs out, or AGAIN where the new sessions' queue did not take its first entry. The
+/// pointer to what the handle holds stands at `out` afterwards.
 #[unsafe(no_mangle)]
 pub extern "C" fn githoppu_checkpoint(
     session: Handle,
@@ -266,7 +276,8 @@ pub extern "C" fn githoppu_checkpoint(
     code
 }
 
-/// Takes up a document store from the words of an image, of either format, and puts a session into each slot. Where it is refused, no slot is written.
+/// Recovers a document store from the words of an image, in the format of a closed service or that of a checkpoint, and puts the pointer to a session
+/// into each slot of `sessions`. The answer is DONE; or it says why nothing is recovered, and no slot is written.
 #[unsafe(no_mangle)]
 pub extern "C" fn githoppu_recover(alloc: Global, words: &[u64], sessions: &mut [*mut u8]) -> i32
     ensures { Recovers 1 (IsStoreIn words.now) (IsStoreFault words.now) words.now (length sessions.old) result }
@@ -280,7 +291,8 @@ pub extern "C" fn githoppu_recover(alloc: Global, words: &[u64], sessions: &mut 
     }
 }
 
-/// Takes up a queue from the words of an image, of either format, and puts a session into each slot. Where it is refused, no slot is written.
+/// Recovers a queue from the words of an image, in the format of a closed service or that of a checkpoint, and puts the pointer to a session into
+/// each slot of `sessions`. The answer is DONE; or it says why nothing is recovered, and no slot is written.
 #[unsafe(no_mangle)]
 pub extern "C" fn githoppu_recover_queue(
     alloc: Global,
@@ -298,8 +310,9 @@ pub extern "C" fn githoppu_recover_queue(
     }
 }
 
-/// Takes up an object of this program from the words of an image, of either format, and puts a session into each slot. Images of the program with the
-/// fingerprint `before` are taken over, where that is not 0. Where it is refused, no slot is written.
+/// Recovers an object of this program from the words `image`, in the format of a closed service or that of a checkpoint, and puts the pointer to a
+/// session into each slot of `sessions`. Where `before` is not 0, it is the fingerprint of another program whose images are taken too. The answer is
+/// DONE; or it says why nothing is recovered, and no slot is written.
 #[unsafe(no_mangle)]
 pub extern "C" fn githoppu_recover_program(
     alloc: Global,
@@ -329,8 +342,9 @@ pub extern "C" fn githoppu_recover_program(
     }
 }
 
-/// What became of the last operation of a session, as the words of an image say: its number among the session's operations and its
-/// reply, or number 0 and 144 zeros where it had none. Where it is refused, nothing is written.
+/// Tells what became of the last operation of the session with the number `session`, as the words of an image say: `number` becomes the number of the
+/// operation among the session's, and `reply` its reply, or 0 and 144 zeros where it had none. The answer is DONE; or it says why the words are
+/// refused, and nothing is written.
 #[unsafe(no_mangle)]
 pub extern "C" fn githoppu_outcome(
     alloc: Global,
@@ -369,8 +383,8 @@ pub extern "C" fn githoppu_version() -> u64
     VERSION
 }
 
-/// Writes the place of a session, with which another session may catch up; what is no session is called out of turn, and 0 is written. The session stands at
-/// `out` afterwards.
+/// Writes the place of a session, with which another session may catch up. Where the handle holds no session the answer is OUT_OF_TURN, and 0 is
+/// written. The pointer to what the handle holds stands at `out` afterwards.
 #[unsafe(no_mangle)]
 pub extern "C" fn githoppu_place_of(session: Handle, place: &mut u64, out: &mut *mut u8) -> i32
     ensures { TellsPlace session.content place.new result }
@@ -390,7 +404,8 @@ pub extern "C" fn githoppu_place_of(session: Handle, place: &mut u64, out: &mut 
     }
 }
 
-/// Has a session catch up with the place of another session of the same object. The session stands at `out` afterwards.
+/// Has a session catch up with `place`, the place of another session of the same object. The answer is DONE where it did, BEHIND where the current
+/// place is below `place`, STOPPED or OUT_OF_TURN. The pointer to what the handle holds stands at `out` afterwards.
 #[unsafe(no_mangle)]
 pub extern "C" fn githoppu_see_place(session: Handle, place: u64, out: &mut *mut u8) -> i32
     requires { IsCallable session.content }

@@ -13,7 +13,9 @@ use std::alloc::{AllocError, Global};
 /// of a session's last operation. It does no operation: each is answered by zeros, and changes nothing.
 #[derive(Drop)]
 pub struct NamedProgram {
+    // how many lines the object has
     lines: u64,
+    // the fingerprint of the program, which is the first word of the object's images
     version: u64,
     ghost some: { 1 ≤ lines },
     ghost few: { lines ≤ 2 ^ 26 },
@@ -21,7 +23,7 @@ pub struct NamedProgram {
 }
 
 impl NamedProgram {
-    /// The object of a program with this fingerprint.
+    /// The object, in `lines` lines, of a program of which only the fingerprint `version` is known.
     pub fn of(lines: u64, version: u64) -> NamedProgram
         requires some { 1 ≤ lines }
         requires few { lines ≤ 2 ^ 26 }
@@ -36,24 +38,30 @@ impl Object for NamedProgram {
 
     ghost version_number = { λ o. o.version };
 
+    // an image is lawful where it may be one of a program with this fingerprint
     ghost lawful = { λ o. IsProgramImage o.lines o.version };
 
     ghost opening = { λ o. opening o.lines o.version };
 
+    // each operation leaves the image as it is, and is answered by 144 zeros
     ghost step = { λ _. laws.idle_step };
 
     ghost only_reads = { λ _ _. true };
 
     ghost old_format = { λ _. no_old_format };
 
+    // the image with which the object opens is lawful
     ghost opens = { λ o. program_opens o.lines o.version o.some o.small };
 
+    // no step changes the image, so it stays lawful
     ghost keeps = { λ o image op i w. i };
 
+    // a lawful image begins with the fingerprint
     ghost shape = { λ o. program_shape o.lines o.version };
 
     ghost replies = { λ o image op i w. laws.zeros_are_words };
 
+    // no step changes the image, so no read does
     ghost leaves = { λ o image op i w reads. refl };
 
     ghost takes_over = { λ o. takes_over_nothing o.lines o.version (IsProgramImage o.lines o.version) };
@@ -66,6 +74,7 @@ impl Object for NamedProgram {
         self.version
     }
 
+    // Writes the opening image: the fingerprint, and then zeros.
     fn format<M: Memory>(&self, mem: &mut M) -> Result<(), Halt> {
         mem.store(0, self.version)?;
         for at in 1..8 * self.lines {
@@ -74,6 +83,7 @@ impl Object for NamedProgram {
         Ok(())
     }
 
+    // Each operation counts as a read.
     fn reads(&self, _op: &OpWords) -> bool {
         true
     }
@@ -98,10 +108,12 @@ impl Object for NamedProgram {
         Ok(())
     }
 
+    // Whether words may be an image: 8 for each line, the first of which is the fingerprint. It takes no memory.
     fn check(&self, _alloc: Global, words: &[u64]) -> Result<bool, AllocError> {
         Ok(words.len() as u64 == 8 * self.lines && words[0] == self.version)
     }
 
+    // There is no older format of images, so none is read, and none is upgraded.
     fn old_version(&self) -> Option<u64> {
         None
     }

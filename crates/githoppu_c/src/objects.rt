@@ -15,19 +15,20 @@ use program_object::ProgramObject;
 
 /// An object that C may have.
 pub trait OfC: Object {
-    /// The number of its kind in images.
+    /// The number of its kind in the head of an image: 1 is a document store, 2 a queue, 3 the object of a program.
     ghost KIND: { ℕ };
 
+    /// The number of its kind in the head of an image, for code.
     const KIND: u64;
 
-    /// Whose replies its results keep.
+    /// The kind of replies that the result slots of its replicas keep.
     ghost replies_kept: { reply_kind_type };
 
-    /// Whose replies its results keep.
+    /// The kind of replies that the result slots of its replicas keep, for code.
     fn reply_kind() -> ReplyKind
         ensures { result ≡ replies_kept };
 
-    /// Images of this kind are known.
+    /// The number of its kind is one that an image may have.
     ghost known: { IsKind KIND };
 }
 

@@ -30,7 +30,8 @@ pub fn open_documents(
     boxed(alloc, sessions)
 }
 
-/// `count` sessions of an empty queue in `lines` lines. `Err` is the code of the refusal, as for a document store.
+/// `count` sessions of an empty queue in `lines` lines. `Err` is the code of the refusal: BAD_SIZE where the lines are not 64 to 16,384 or the
+/// sessions not 1 to 8, else NO_MEMORY, or AGAIN where the sessions' new queue did not take its first entry.
 pub fn open_queue(alloc: Global, lines: u64, count: usize) -> Result<Vec<Box<AnyHandleState>>, i32>
     ensures { MatchResult result (λ boxes. AreOpened queue_session lines count boxes.items) (Refuses lines count) }
 {
@@ -41,7 +42,8 @@ pub fn open_queue(alloc: Global, lines: u64, count: usize) -> Result<Vec<Box<Any
     boxed(alloc, sessions)
 }
 
-/// `count` sessions of an object as it opens. `Err` is NO_MEMORY, or AGAIN where the sessions' new queue did not take its first entry.
+/// `count` sessions of a new service of `object`, which starts from the object's opening image. `Err` is NO_MEMORY, or AGAIN where the sessions' new
+/// queue did not take its first entry.
 pub(crate) fn opened<O: Object>(
     alloc: Global,
     object: O,
@@ -56,7 +58,7 @@ pub(crate) fn opened<O: Object>(
     }
 }
 
-/// Puts each session into a slot.
+/// Puts the pointer to each session into the slot of the same number, from which C has it. A session without a slot is dropped.
 pub fn hand_out(sessions: Vec<Box<AnyHandleState>>, slots: &mut [*mut u8]) {
     let mut at = 0;
     for session in sessions {
@@ -67,7 +69,7 @@ pub fn hand_out(sessions: Vec<Box<AnyHandleState>>, slots: &mut [*mut u8]) {
     }
 }
 
-/// Whether there may be an object of this many lines with this many sessions.
+/// Whether an object may be opened with this many lines and sessions: with 64 to 16,384 lines, and `count` sessions, 1 to 8.
 pub(crate) fn may_open(lines: u64, count: usize) -> bool
     ensures { IsTrue result ↔ MayOpen lines count }
 {

@@ -17,8 +17,8 @@ use fifo_object::Fifo;
 use recovery::{Outcome, outcome};
 use std::alloc::Global;
 
-/// What became of the last operation of a session. `Err` is the code of the refusal: BAD_SIZE where the session is not 0 to 7, what is wrong with the
-/// image, or NO_MEMORY.
+/// What became of the last operation of the session with the number `session`, by the words of an image. `Err` is the code of the refusal: BAD_SIZE
+/// where `session` is above 7, NO_MEMORY, or what is wrong with the image.
 pub fn outcome_in(alloc: Global, words: &[u64], session: u64) -> Result<Outcome, i32>
     ensures { MatchResult result (IsOutcomeIn words.now session) (RefusesOutcome words.now session) }
 {
@@ -29,7 +29,8 @@ pub fn outcome_in(alloc: Global, words: &[u64], session: u64) -> Result<Outcome,
     Ok(outcome(&base, session as u32))
 }
 
-/// The base that words say, of whichever object.
+/// The base, that is, the place and the replica, that is recovered from the words of an image of any kind of object. `Err` is the code of the
+/// refusal.
 fn any_base(alloc: Global, words: &[u64]) -> Result<Base, i32>
     ensures { TellsBase words.now result }
 {
@@ -46,7 +47,7 @@ fn any_base(alloc: Global, words: &[u64]) -> Result<Base, i32>
     }
 }
 
-/// The base that words of another kind than a store say.
+/// The base that is recovered from the words of an image whose head names another kind than a document store. `Err` is the code of the refusal.
 fn other_base(alloc: Global, words: &[u64]) -> Result<Base, i32>
     requires headed { IsHeaded words.now }
     requires other { object_kind_in words.now ≢ 1 }
@@ -59,7 +60,8 @@ fn other_base(alloc: Global, words: &[u64]) -> Result<Base, i32>
     }
 }
 
-/// The base that words of a program's object say, of the program that they name.
+/// The base that is recovered from the words of an image whose head names neither a document store nor a queue. The program need not be there: of it
+/// the image has the fingerprint. `Err` is the code of the refusal.
 fn program_base(alloc: Global, words: &[u64]) -> Result<Base, i32>
     requires headed { IsHeaded words.now }
     requires no_store { object_kind_in words.now ≢ 1 }
@@ -75,16 +77,19 @@ fn program_base(alloc: Global, words: &[u64]) -> Result<Base, i32>
     }
 }
 
-/// The fingerprint that the words of an image name: the first word of the object, where the root says that it is.
+/// The fingerprint of the program that the words of an image name: the first word of the object, in the replica that the root names. 0 where the
+/// words end before it.
 fn fingerprint_in(words: &[u64], head: Head) -> u64
     requires { IsSaid words.now head }
     ensures { result ≡ spec.fingerprint_in words.now }
 {
+    // the words of the replicas before the one that the root names; format 2 has one replica only
     let region = if head.format == 2 {
         0
     } else {
         base_words(head.lines) * u64::from(root_replica(head.callers, head.root))
     };
+    // behind the head of 8 words and those replicas, the object follows on the results
     match words.get((8 + region + OBJECT_START) as usize) {
         Some(word) => *word,
         None => 0,

@@ -17,10 +17,10 @@ use program_code::{FaultKind, Program};
 use program_object::ProgramObject;
 use std::alloc::Global;
 
-/// The most instructions of an operation.
+/// The most instructions that an operation may be allowed to take.
 pub const MOST_FUEL: u64 = 1 << 20;
 
-/// The lines of an object that is made for its fingerprint alone.
+// How many lines an object has that is made only to ask it for its fingerprint.
 const FEW_LINES: u64 = 64;
 
 /// `count` sessions of an object of a program in `lines` lines, as it opens. `Err` is the code of the refusal: BAD_SIZE where the lines are not 64 to 16,384,
@@ -39,14 +39,15 @@ pub fn open_program(
     if !may_open(lines, count) || fuel > MOST_FUEL {
         return Err(BAD_SIZE);
     }
+    // a new object has no images of another program to take over
     let object = object_of(alloc, words, instructions, fuel, lines, None)?;
     let sessions = opened(alloc, object, count)?;
     boxed(alloc, sessions)
 }
 
-/// `count` sessions of the object of this program, from the words of an image of it, or of an image of the program with the fingerprint `before`, where
-/// that is not 0. `Err` is the code of the refusal: BAD_SIZE where the sessions are not 1 to 8 or the fuel is above 2^20; BAD_PROGRAM; and then as
-/// for a document store.
+/// `count` sessions of the object of this program, from the words `image` of an image of it, or of one of the program with the fingerprint `before`,
+/// where that is not 0. `Err` is the code of the refusal: BAD_SIZE where the sessions are not 1 to 8 or the fuel is above 2^20; BAD_PROGRAM where
+/// `words` are no program; what is wrong with the image; else NO_MEMORY, or AGAIN where the sessions' new queue did not take its first entry.
 pub fn recover_program(
     alloc: Global,
     words: &[u64],
@@ -61,18 +62,20 @@ pub fn recover_program(
     if !are_few(count) || fuel > MOST_FUEL {
         return Err(BAD_SIZE);
     }
+    // `before` counts only where it is not the program's own fingerprint
     let fingerprint = fingerprint_of(alloc, words, instructions, fuel)?;
     let head = match head_of(image, PROGRAM) {
         Ok(head) => head,
         Err(fault) => return Err(fault_code(fault)),
     };
     let before = before_of(before, fingerprint);
+    // the object has as many lines as the head of the image says
     let object = object_of(alloc, words, instructions, fuel, head.lines, before)?;
     let sessions = recovered(alloc, object, image, head, count)?;
     boxed(alloc, sessions)
 }
 
-/// The fingerprint of a program. `Err` is BAD_PROGRAM or NO_MEMORY.
+/// The fingerprint of the program that `words` are, with this fuel. `Err` is BAD_PROGRAM or NO_MEMORY.
 pub fn fingerprint_of(
     alloc: Global,
     words: &[u64],
@@ -86,7 +89,7 @@ pub fn fingerprint_of(
     Ok(object.fingerprint())
 }
 
-/// The fingerprint whose images a program with this one takes over: none for 0, and its own images are its own.
+/// The fingerprint of another program whose images are taken over: `before`, or none where that is 0 or is the program's own.
 fn before_of(before: u64, fingerprint: u64) -> Option<u64>
     ensures { result ≡ spec.before_of before fingerprint }
 {
@@ -97,7 +100,8 @@ fn before_of(before: u64, fingerprint: u64) -> Option<u64>
     }
 }
 
-/// The object of a program. `Err` is BAD_PROGRAM or NO_MEMORY.
+/// The object of the program that `words` are: the first `instructions` of them are instructions, the others constants. `Err` is BAD_PROGRAM or
+/// NO_MEMORY.
 fn object_of(
     alloc: Global,
     words: &[u64],
@@ -113,13 +117,14 @@ fn object_of(
         Ok(program) => program,
         Err(fault) => return Err(refusal_code(fault.kind)),
     };
+    // `None` does not come: by the contract the numbers fit
     match ProgramObject::of(program, lines, fuel, before) {
         Some(object) => Ok(object),
         None => unreachable!(),
     }
 }
 
-/// The number of why words are no program.
+/// The status for the fault `kind`: NO_MEMORY where memory ran out, else BAD_PROGRAM.
 fn refusal_code(kind: FaultKind) -> i32
     ensures { result ≡ spec.refusal_code kind }
 {
@@ -129,7 +134,7 @@ fn refusal_code(kind: FaultKind) -> i32
     }
 }
 
-/// The number of a kind of fault that words may have. Memory that runs out is no fault of theirs, and has none.
+/// The number by which C knows the fault `kind` of words that are no program. `None` where memory ran out, which is no fault of the words.
 pub fn program_fault_number(kind: FaultKind) -> Option<u64>
     ensures { result ≡ spec.program_fault_number kind }
 {

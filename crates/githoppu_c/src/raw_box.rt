@@ -6,7 +6,7 @@ ghost use Rattle.std.specs.Box.Ownership.{box_owns};
 use std::alloc::Allocator;
 use std::marker::Model;
 
-/// What a box owns, behind a raw pointer.
+/// A box in two parts: `ptr` points to its memory, which is from the allocator `alloc`. `value` is what stands there, which this owns as a box does.
 pub struct RawBox<T, A: Allocator> {
     pub(crate) ptr: *mut T,
     pub(crate) alloc: A,
@@ -18,7 +18,7 @@ impl<T, A: Allocator> Model for RawBox<T, A> {
 }
 
 impl<T, A: Allocator> RawBox<T, A> {
-    /// The box.
+    /// The box, made again of its pointer and its allocator.
     pub fn into_box(self) -> Box<T, A>
         ensures { result.value ≡ self.value }
     {

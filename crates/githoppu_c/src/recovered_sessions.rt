@@ -22,8 +22,8 @@ use doc_store::DocStore;
 use fifo_object::Fifo;
 use std::alloc::Global;
 
-/// `count` sessions of the document store that words say. `Err` is the code of the refusal: BAD_SIZE where the sessions are not 1 to 8; what is wrong with
-/// the image; else NO_MEMORY, or AGAIN where the sessions' new queue did not take its first entry.
+/// `count` sessions of the document store in the words of an image. `Err` is the code of the refusal: BAD_SIZE where the sessions are not 1 to 8;
+/// what is wrong with the image; else NO_MEMORY, or AGAIN where the sessions' new queue did not take its first entry.
 pub fn recover_documents(
     alloc: Global,
     words: &[u64],
@@ -42,7 +42,8 @@ pub fn recover_documents(
     boxed(alloc, sessions)
 }
 
-/// `count` sessions of the queue that words say. `Err` is the code of the refusal, as for a document store.
+/// `count` sessions of the queue in the words of an image. `Err` is the code of the refusal: BAD_SIZE where the sessions are not 1 to 8; what is
+/// wrong with the image; else NO_MEMORY, or AGAIN where the sessions' new queue did not take its first entry.
 pub fn recover_queue(
     alloc: Global,
     words: &[u64],
@@ -61,8 +62,8 @@ pub fn recover_queue(
     boxed(alloc, sessions)
 }
 
-/// `count` sessions of the object, from the base that words with this head say of it. `Err` is what is wrong with the image, else NO_MEMORY, or AGAIN where
-/// the sessions' new queue did not take its first entry.
+/// `count` sessions of a new service of `object`, which starts from the base in the words of an image: a place and a replica. `head` is what the
+/// first words say. `Err` says what is wrong with the image, or is NO_MEMORY, or AGAIN where the sessions' new queue did not take its first entry.
 pub(crate) fn recovered<O: OfC>(
     alloc: Global,
     object: O,
@@ -84,7 +85,8 @@ pub(crate) fn recovered<O: OfC>(
     }
 }
 
-/// The base that words with this head say of an object, where its results are replies of this kind.
+/// The base, that is, the place and the replica, that is recovered for `object` from words with this head. `Err` is the code of the refusal, which is
+/// also given where a result in the replica keeps no reply of this kind.
 pub(crate) fn base_in<O: Object>(
     alloc: Global,
     object: &O,
@@ -103,7 +105,7 @@ pub(crate) fn base_in<O: Object>(
     }
 }
 
-/// The base, where its results are replies of this kind.
+/// Gives `base` back where each result in it that has a number keeps a reply of this kind. `Err` is IMAGE_BODY where one does not, or NO_MEMORY.
 fn with_replies(alloc: Global, base: Base, kind: ReplyKind) -> Result<Base, i32>
     requires { OBJECT_START ≤ length base.words }
     ensures { MatchResult result (IsSameWith (IsReplyOfKind kind) base) (IsNoneWith (IsReplyOfKind kind) base) }
@@ -115,7 +117,7 @@ fn with_replies(alloc: Global, base: Base, kind: ReplyKind) -> Result<Base, i32>
     }
 }
 
-/// Whether there may be this many sessions.
+/// Whether there may be this many sessions of a service: 1 to 8.
 pub(crate) fn are_few(count: usize) -> bool
     ensures { IsTrue result ↔ AreFew count }
 {

@@ -1,6 +1,7 @@
 use Rattle.std.proofs.Common.{rules}
 use Rattle.githoppu_c.proofs.githoppu_call.Goals as goal
 
+-- the answer to C is the status of the call's result, and a further call may be made with what the handle holds
 pub returns : goal.returns
 returns c = record {
   tries = c.tries_of.result.count;

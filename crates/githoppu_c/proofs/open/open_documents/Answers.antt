@@ -9,6 +9,7 @@ use Rattle.githoppu_c.proofs.Openings.{open_callable, opened_boxes}
 use Rattle.githoppu_c.proofs.Replies.{fresh_keeps}
 use Rattle.githoppu_c.proofs.open.open_documents.Goals as goal
 
+-- the boxes have the sessions of the store that was opened, whose results keep replies since it has none; or memory ran out
 pub returns : goal.returns
 returns c =
     let lines = store_ghosts.line_count c.of.result in

@@ -3,6 +3,7 @@ use Rattle.cx_core.specs.declared.entry.Base.{Base}
 use Rattle.table_invariant.specs.Running.{Running}
 use Rattle.githoppu_c.proofs.open.opened.Goals as goal
 
+-- the sessions that were opened are of one service of the object, which starts from the object's opening image
 pub returns-in-Ok : goal.returns-in-Ok
 returns-in-Ok g c =
     let sessions = c.in-Ok.ensures.opened in

@@ -6,6 +6,7 @@ use Rattle.githoppu_c.proofs.SameLines.{store_base, store_fault}
 use Rattle.githoppu_c.proofs.BasesForKinds.{base_for_kind}
 use Rattle.githoppu_c.proofs.outcomes.any_base.Goals as goal
 
+-- the head names a document store: the base that is taken for one, or the fault, is that of the words
 pub returns-in-Ok : goal.returns-in-Ok
 returns-in-Ok c =
     let words = c.args.words.now in

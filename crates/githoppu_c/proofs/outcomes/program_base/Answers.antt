@@ -6,6 +6,7 @@ use Rattle.githoppu_c.proofs.SameLines.{named_base, named_fault}
 use Rattle.githoppu_c.proofs.BasesForKinds.{base_for_kind}
 use Rattle.githoppu_c.proofs.outcomes.program_base.Goals as goal
 
+-- the head names a program's object: the base that is taken for it, or the fault, is that of the words
 pub returns-in-Ok : goal.returns-in-Ok
 returns-in-Ok c =
     let words = c.args.words.now in

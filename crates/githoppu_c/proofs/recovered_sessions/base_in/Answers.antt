@@ -3,6 +3,7 @@ use Rattle.c_images.specs.Words.{IsTakenUp, IsWordsFault}
 use Rattle.githoppu_c.proofs.Bases.{taken}
 use Rattle.githoppu_c.proofs.recovered_sessions.base_in.Goals as goal
 
+-- a base was read: it is given where its results keep replies, and else the status for the fault
 pub returns-in-Ok-clause-base : goal.returns-in-Ok-clause-base
 returns-in-Ok-clause-base g c =
     let o = g.O.Object in

@@ -9,6 +9,7 @@ use Rattle.githoppu_c.proofs.Refused.{handed_on}
 use Rattle.githoppu_c.proofs.SameLines.{store_base, store_fault}
 use Rattle.githoppu_c.proofs.recovered_sessions.recover_documents.Goals as goal
 
+-- no sessions of the document store were recovered: the status is handed on, and is one of `RefusesWords`
 pub returns-in_err-sessions : goal.returns-in_err-sessions
 returns-in_err-sessions c =
     let words = c.args.words.now in
@@ -16,6 +17,7 @@ returns-in_err-sessions c =
     handed_on _ (RefusesWords 1 (IsStoreFault words) words c.args.count) c.from_residual.result _ c.from_residual.ensures.1
     (refused_sessions 1 (IsStoreFault words) (IsObjectFault store_ghosts Document c.of.result words) words c.args.count _ few (store_fault words c.of.result (c.of.ensures ∙ c.in-Ok.ensures.1.lines)) c.in_err-sessions.ensures)
 
+-- the boxes have the sessions of the document store that was recovered; or memory ran out
 pub returns : goal.returns
 returns c =
     let words = c.args.words.now in

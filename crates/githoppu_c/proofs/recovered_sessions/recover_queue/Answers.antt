@@ -9,6 +9,7 @@ use Rattle.githoppu_c.proofs.Refused.{handed_on}
 use Rattle.githoppu_c.proofs.SameLines.{queue_base, queue_fault}
 use Rattle.githoppu_c.proofs.recovered_sessions.recover_queue.Goals as goal
 
+-- no sessions of the queue were recovered: the status is handed on, and is one of `RefusesWords`
 pub returns-in_err-sessions : goal.returns-in_err-sessions
 returns-in_err-sessions c =
     let words = c.args.words.now in
@@ -16,6 +17,7 @@ returns-in_err-sessions c =
     handed_on _ (RefusesWords 2 (IsQueueFault words) words c.args.count) c.from_residual.result _ c.from_residual.ensures.1
     (refused_sessions 2 (IsQueueFault words) (IsObjectFault queue_ghosts QueueReplies c.of.result words) words c.args.count _ few (queue_fault words c.of.result (c.of.ensures ∙ c.in-Ok.ensures.1.lines)) c.in_err-sessions.ensures)
 
+-- the boxes have the sessions of the queue that was recovered; or memory ran out
 pub returns : goal.returns
 returns c =
     let words = c.args.words.now in

@@ -7,12 +7,14 @@ use Rattle.githoppu_c.proofs.Openings.{kind_refused, opening_code}
 use Rattle.githoppu_c.proofs.Refused.{handed_on}
 use Rattle.githoppu_c.proofs.recovered_sessions.recovered.Goals as goal
 
+-- no base was given: the status is handed on, and is that of a fault of the words for this object
 pub returns-in_err-base : goal.returns-in_err-base
 returns-in_err-base g c =
     let o = g.O.Object in
     handed_on _ (λ (code : ℤ). IsRefusal (IsObjectFault o g.O.OfC.replies_kept c.args.object c.args.words.now) code ⊎ IsOpenCode code) c.from_residual.result _ c.from_residual.ensures.1
     (inl (kind_refused o c.args.object c.args.words.now c.reply_kind.result g.O.OfC.replies_kept _ c.reply_kind.ensures c.in_err-base.ensures.base))
 
+-- the sessions are of one service of the object, which starts from the base that was taken from the words
 pub returns-in-Ok : goal.returns-in-Ok
 returns-in-Ok g c =
     let sessions = c.in-Ok.ensures in
@@ -26,6 +28,7 @@ returns-in-Ok g c =
       each = sessions.each;
     }
 
+-- no sessions were opened from the base: the status is one of `IsOpenCode`
 pub returns : goal.returns
 returns g c =
     let code = to_z w32 (of_z w32 c.open_code.result) in

@@ -7,6 +7,7 @@ use Rattle.githoppu_c.specs.declared.content.AnyHandleState.{AnyHandleState}
 use Rattle.githoppu_c.proofs.TakenUp.{program_taken_back, queue_taken_back, store_taken_back}
 use Rattle.githoppu_c.proofs.content.AnyHandleState.checkpoint.Goals as goal
 
+-- the image that a session took of a document store is recovered again
 pub returns-in-Documents-clause-back : goal.returns-in-Documents-clause-back
 returns-in-Documents-clause-back c =
     let after = c.checkpoint.new.words in
@@ -14,6 +15,7 @@ returns-in-Documents-clause-back c =
     let back : ContentTakenBack store_ghosts 1 after code c.in-Documents.content = search rules in
     subst (λ (s : AnyHandleState). TakenComesBack s after code) (sym c.in-Documents.is) (store_taken_back after code c.in-Documents.content back)
 
+-- the image that a session took of a queue is recovered again
 pub returns-in-Queue-clause-back : goal.returns-in-Queue-clause-back
 returns-in-Queue-clause-back c =
     let after = c.checkpoint-in-Queue.new.words in
@@ -21,6 +23,7 @@ returns-in-Queue-clause-back c =
     let back : ContentTakenBack queue_ghosts 2 after code c.in-Queue.content = search rules in
     subst (λ (s : AnyHandleState). TakenComesBack s after code) (sym c.in-Queue.is) (queue_taken_back after code c.in-Queue.content back)
 
+-- the image that a session took of a program's object is recovered again, whichever other program's images are taken over
 pub returns-in-Program-clause-back : goal.returns-in-Program-clause-back
 returns-in-Program-clause-back c =
     let after = c.checkpoint-in-Program.new.words in

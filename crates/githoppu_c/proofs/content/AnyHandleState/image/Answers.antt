@@ -8,6 +8,7 @@ use Rattle.githoppu_c.specs.declared.content.AnyHandleState.{AnyHandleState}
 use Rattle.githoppu_c.proofs.TakenUp.{program_comes_back, queue_comes_back, store_comes_back}
 use Rattle.githoppu_c.proofs.content.AnyHandleState.image.Goals as goal
 
+-- the image that was written of a document store is recovered again
 pub returns-in-Documents-clause-back : goal.returns-in-Documents-clause-back
 returns-in-Documents-clause-back c =
     let after = c.image.new.words in
@@ -15,6 +16,7 @@ returns-in-Documents-clause-back c =
     let back : ContentComesBack store_ghosts 1 Document c.args.choice after code c.in-Documents.content = search rules in
     subst (λ (s : AnyHandleState). ComesBack s c.args.choice after code) (sym c.in-Documents.is) (store_comes_back c.args.choice after code c.in-Documents.content back)
 
+-- the image that was written of a queue is recovered again
 pub returns-in-Queue-clause-back : goal.returns-in-Queue-clause-back
 returns-in-Queue-clause-back c =
     let after = c.image-in-Queue.new.words in
@@ -22,6 +24,7 @@ returns-in-Queue-clause-back c =
     let back : ContentComesBack queue_ghosts 2 QueueReplies c.args.choice after code c.in-Queue.content = search rules in
     subst (λ (s : AnyHandleState). ComesBack s c.args.choice after code) (sym c.in-Queue.is) (queue_comes_back c.args.choice after code c.in-Queue.content back)
 
+-- the image that was written of a program's object is recovered again, whichever other program's images are taken over
 pub returns-in-Program-clause-back : goal.returns-in-Program-clause-back
 returns-in-Program-clause-back c =
     let after = c.image-in-Program.new.words in

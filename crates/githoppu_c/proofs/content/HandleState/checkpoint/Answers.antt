@@ -7,6 +7,7 @@ use Rattle.githoppu_c.specs.declared.content.HandleState.{HandleState}
 use Rattle.githoppu_c.proofs.Checkpointed.{region_in}
 use Rattle.githoppu_c.proofs.content.HandleState.checkpoint.Goals as goal
 
+-- Where the status of taking an image is 0, the base that was taken is read from its words, unless memory runs out.
 pub returns-in-Session-clause-back : goal.returns-in-Session-clause-back
 returns-in-Session-clause-back g c =
     let o = g.O.Object in

@@ -6,6 +6,7 @@ use Rattle.githoppu_c.specs.declared.content.HandleState.{HandleState}
 use Rattle.githoppu_c.proofs.TakenUp.{left_image}
 use Rattle.githoppu_c.proofs.content.HandleState.image.Goals as goal
 
+-- Where the status of writing an image of a closed service is 0, its words are an image as `IsLeftImage` says.
 pub returns-in-Closed-clause-back : goal.returns-in-Closed-clause-back
 returns-in-Closed-clause-back g c =
     let o = g.O.Object in

@@ -3,7 +3,7 @@ use Rattle.cx_base.specs.Memory.{Becomes, Framed}
 use Rattle.program_object.specs.Meaning.{opening}
 use Rattle.githoppu_c.proofs.named_program.NamedProgramObject.format.Given as goal
 
--- the first words are the opening image's
+-- the words that are stored so far, below `at`, are those of the opening image; the memory has 8 words for each line, and is writable
 abbrev pub invariant-loop-at : goal.invariant-loop-at
 invariant-loop-at g l = record {
   done : Becomes (g.M.Memory.stands l.fn.mem) (g.M.Memory.stands l.mem) (λ _ now. take l.at now ≡ take l.at (opening l.self.lines l.self.version));

@@ -41,6 +41,7 @@ use Rattle.githoppu_c.proofs.raw_box.RawBox.into_box.Code as code
 abbrev returned : Body
 returned = seq (assign (place 0 []) (rv_opd (copy (place 4 [])))) return
 
+-- the function `into_box` meets its contract, for each type of value and of allocator
 pub into_box_spec : {M : Type 1} → statement M
 into_box_spec 𝓤 𝓛 𝓜 𝓡 wired X Z x-laws z-laws ghosts dict drops allocates drops-met =
     let E : Bx = record { row = X; laws = x-laws; al = record { row = Z; laws = z-laws; g = ghosts; d = dict; drops = drops } } in
