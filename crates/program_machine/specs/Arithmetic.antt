@@ -27,13 +27,15 @@ size_of a = if is_negative a then 2 ^ 64 - a else a
 abbrev pub shifted_signed : ℕ → ℕ → ℕ
 shifted_signed a k = if is_negative a then 2 ^ 64 - 1 - (2 ^ 64 - 1 - a) / 2 ^ k else a / 2 ^ k
 
--- a signed number of 8, 16 or 32 bits as one of 64
+-- a signed number of 8 bits as one of 64
 abbrev pub signed_8 : ℕ → ℕ
 signed_8 a = if nat_le (2 ^ 7) a then a + (2 ^ 64 - 2 ^ 8) else a
 
+-- a signed number of 16 bits as one of 64
 abbrev pub signed_16 : ℕ → ℕ
 signed_16 a = if nat_le (2 ^ 15) a then a + (2 ^ 64 - 2 ^ 16) else a
 
+-- a signed number of 32 bits as one of 64
 abbrev pub signed_32 : ℕ → ℕ
 signed_32 a = if nat_le (2 ^ 31) a then a + (2 ^ 64 - 2 ^ 32) else a
 
@@ -57,13 +59,15 @@ signed_quotient a b = if have_one_sign a b then quotient (size_of a) (size_of b)
 abbrev pub signed_remainder : ℕ → ℕ → ℕ
 signed_remainder a b = if is_negative a then negated (remainder (size_of a) (size_of b)) else remainder (size_of a) (size_of b)
 
--- bytes in the other order
+-- the lowest two bytes in the other order
 abbrev pub swapped_16 : ℕ → ℕ
 swapped_16 a = a % 2 ^ 8 * 2 ^ 8 + a / 2 ^ 8 % 2 ^ 8
 
+-- the lowest four bytes in the other order
 abbrev pub swapped_32 : ℕ → ℕ
 swapped_32 a = swapped_16 a * 2 ^ 16 + swapped_16 (a / 2 ^ 16)
 
+-- the eight bytes of a word in the other order
 abbrev pub swapped_64 : ℕ → ℕ
 swapped_64 a = swapped_32 a * 2 ^ 32 + swapped_32 (a / 2 ^ 32)
 
