@@ -46,7 +46,7 @@ pub fn base_of<O: Object>(
     let Ok(image) = image_of(alloc, words, head) else {
         return Err(WordsFault::Image(ImageFault::Memory));
     };
-    // recovery checks the image for this object; what it does not look at is whether a result's number is above the place
+    // recovery checks the image for this object; it does not look at whether a result's number is above the place
     match recover(alloc, object, &image) {
         Ok(base) => within(base),
         Err(fault) => Err(WordsFault::Image(fault)),

@@ -93,7 +93,7 @@ impl<O: Object> Session<O> {
         if came != last && last > 0 {
             return Closing::Others;
         }
-        // this session is the last: it takes all callers out of the queue and closes the service
+        // this session counted its caller last: it goes on to take all callers out of the queue and to close the service
         let exit = ClosingState {
             handover,
             pass,

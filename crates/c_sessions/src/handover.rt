@@ -88,7 +88,7 @@ impl<O: Object> ReturnQueue<O> {
     }
 
     /// Puts `given`, the caller of `pass` with its share of the service, into the queue. `given` has to be of the pass's service and the one caller
-    /// that the pass is still to hand in. `Err` hands both back, and the pass knows what it did: others were in the way in each try.
+    /// that the pass is still to hand in. `Err` hands both back, and leaves what the pass knows: others were in the way in each try.
     pub(crate) fn hand_in(
         &self,
         pass: &mut Pass<HandedIn<O>, Knows<O>>,
@@ -110,7 +110,7 @@ impl<O: Object> ReturnQueue<O> {
     }
 
     /// Takes a caller that was handed in out of the queue, and `pass` knows it from then on. `None` where the queue is empty, or others were in the
-    /// way in each try; the pass knows then what it did before. `pass` has to know which service its queue is of.
+    /// way in each try; what the pass knows stays then. `pass` has to know which service its queue is of.
     pub(crate) fn take(&self, pass: &mut Pass<HandedIn<O>, Knows<O>>) -> Option<HandedIn<O>>
         requires { IsPassOf self.now.line pass.old × (r : Running O) × ((view pass.old).home ≡ Some r) }
         ensures pass { IsPassOf self.now.line pass.new }
