@@ -28,7 +28,7 @@ pub enum RunFault {
     Place,
 }
 
-/// How a run ends: with a value, which the program returned in register 0, or with a fault. `at` is the number of the instruction at fault, and
+/// How a run ends: with a value, which the program returned in register 0, or with a fault. `at` is the number of the instruction that it was at, and
 /// `address` is the address that it was to load from or store to, or 0 where the fault is of none.
 #[derive(Clone, Copy, Debug, PartialEq, Eq)]
 pub enum RunEnd {
