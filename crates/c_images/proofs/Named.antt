@@ -13,12 +13,15 @@ use Rattle.c_images.specs.Words.{SaysImage, SaysRegion}
 
 module _ (kind callers lines place : ℕ) (region words : List ℕ) (some : 1 ≤ callers) (long : length region ≡ region_words lines) (written : IsWrittenOf kind callers lines place region words)
     (image : Image) (says : SaysImage words image) where
+  -- the image has as many callers as were written
   callers_are : image.callers ≡ callers
   callers_are = says.callers ∙ written.head.callers_are
 
+  -- the image has as many lines as were written
   lines_are : image.lines ≡ lines
   lines_are = says.lines ∙ written.head.lines_are
 
+  -- the words say one region, since their format is 2
   one : SaysRegion words image
   one = says.one written.head.format_is
 
@@ -33,9 +36,11 @@ module _ (kind callers lines place : ℕ) (region words : List ℕ) (some : 1 �
       let count = one.count in
       omega (arith, count, parts, here)
 
+  -- the image's root has the place that was written
   place_is : place_in_root image ≡ place
   place_is = ap₂ root_place_of callers_are (says.root ∙ written.head.root_is) ∙ code_place callers place 0 (omega (arith, some))
 
+  -- the region that the image's root names is the one that was written
   region_is : region_of image ≡ region
   region_is =
       let n = region_words lines in

@@ -35,6 +35,7 @@ module _ (start : ℕ) (words : List ℕ) where
   }
 
   module _ (at : ℕ) (pairs : List (ℕ × ℕ)) (gives : Gives (word_from start words) (start + at) pairs) where
+    -- words that are put up to `start + at + 1` are put up to `start + (at + 1)`
     next : (new : List (ℕ × ℕ)) → Gives (word_from start words) (start + at + 1) new → Gives (word_from start words) (start + (at + 1)) new
     next new of = subst (λ n. Gives (word_from start words) n new) (omega arith) of
 
@@ -56,6 +57,7 @@ at_replica words image region replica pairs r n p gives =
 -- pairs that put the words after a head where the replica begins that the root names give that replica these words
 module _ (words : List ℕ) (image : Image) (some : 1 ≤ image.callers) (count : image.count ≡ length words - 8 + region_words image.lines * (2 * image.callers - 1))
     (gives : Gives (word_from (region_start image) words) (region_start image + (length words - 8)) image.pairs) where
+  -- how many replicas there are beside the one that the root names
   abbrev others : ℕ
   others = 2 * image.callers - 1
 
@@ -66,6 +68,7 @@ module _ (words : List ℕ) (image : Image) (some : 1 ≤ image.callers) (count 
       let up : region_start image ≤ region_words image.lines * others = mul-le-mul_left (region_words image.lines) (omega (arith, first)) in
       All-weaker (λ (p : ℕ × ℕ). p.0 < region_start image + (length words - 8)) (λ (p : ℕ × ℕ). p.0 < image.count) (λ p small. omega (arith, small, up, count)) image.pairs gives.below
 
+  -- where the image has its size, the words after the head are as many as a region has
   as_long : HasSize image → length words - 8 ≡ region_words image.lines
   as_long size =
       let n = region_words image.lines in

@@ -20,6 +20,7 @@ use Rattle.c_images.specs.Words.{IsHeaded, IsTakenUp, IsWordsFault, SaysImage, S
 use Rattle.c_images.specs.declared.reader.WordsFault.{WordsFault}
 use Rattle.c_images.specs.declared.reader.WordsFault.TheVariants.{Head, Kind, Image as ImageRefused, Numbers}
 
+-- recovery's refusal by a fault
 abbrev refusal : ImageFault → Result Base ImageFault
 refusal fault = Err fault
 
@@ -42,30 +43,38 @@ asked exact Body is other = exact.body is.0 is.1 is.2.0 is.2.1 is.2.2
 asked exact Memory is other = absurd (other refl)
 
 module _ (words : List ℕ) (headed : IsHeaded words) (one_image other_image : Image) (says : SaysImage words one_image) (other : SaysImage words other_image) where
+  -- two images that the same words say have the same number of callers
   callers_are : one_image.callers ≡ other_image.callers
   callers_are = says.callers ∙ sym other.callers
 
+  -- two images that the same words say have the same number of lines
   lines_are : one_image.lines ≡ other_image.lines
   lines_are = says.lines ∙ sym other.lines
 
+  -- two images that the same words say have the same root
   root_is : one_image.root ≡ other_image.root
   root_is = says.root ∙ sym other.root
 
+  -- two images that the same words say have the same place in the root
   place_is : place_in_root one_image ≡ place_in_root other_image
   place_is = ap₂ root_place_of callers_are root_is
 
+  -- two images that the same words say have the same number of words
   count_is : one_image.count ≡ other_image.count
   count_is = elim headed.format [
     | inl all ↦ (let one = (says.replicas all).count in let two = (other.replicas all).count in omega (arith, one, two))
     | inr of ↦ (says.one of).count ∙ ap₂ (λ lines callers. length words - 8 + region_words lines * (2 * callers - 1)) lines_are callers_are ∙ sym (other.one of).count
   ]
 
+  -- where one of two images that the same words say has its size, the other has
   size_is : HasSize one_image → HasSize other_image
   size_is size = sym count_is ∙ size ∙ ap₂ image_size callers_are lines_are
 
+  -- where the other of two images that the same words say has its size, the one has
   sym_size : HasSize other_image → HasSize one_image
   sym_size size = count_is ∙ size ∙ sym (ap₂ image_size callers_are lines_are)
 
+  -- in two images that the same words say, the replica that the root names begins at the same address
   start_is : region_start one_image ≡ region_start other_image
   start_is = ap₂ (λ lines replica. region_words lines * replica) lines_are (ap₂ root_replica_of callers_are root_is)
 

@@ -14,7 +14,8 @@ pub(crate) const REPLICAS: u64 = 1;
 /// The format of an image of one region.
 pub(crate) const ONE_REGION: u64 = 2;
 
-/// The head of an image in words: its format, the callers of the service that the image is of, the lines of the service's object, and the root code.
+/// The head of an image in words: `format` is 1 or 2, `callers` is how many callers the service has that the image is of, `lines` is how many lines
+/// the service's object has, and `root` is the root code, which names a replica and its place.
 #[derive(Clone, Copy, Debug, Drop)]
 pub struct Head {
     pub format: u64,
@@ -23,8 +24,8 @@ pub struct Head {
     pub root: u64,
 }
 
-/// The head of the words of an image of an object of this kind. `Err` is `Head` where the words begin with no head, and `Kind` where they begin with the
-/// head of an object of another kind, which it names.
+/// The head of `words`, which are to be an image of an object of this `kind`. `Err` is `Head` where the words begin with no head, and `Kind` where
+/// they begin with the head of an object of another kind, which it names.
 pub fn head_of(words: &[u64], kind: u64) -> Result<Head, WordsFault>
     ensures { MatchResult result (IsHeadOf kind words.now) (IsHeadFault kind words.now) }
 {
@@ -34,6 +35,7 @@ pub fn head_of(words: &[u64], kind: u64) -> Result<Head, WordsFault>
     if words[2] != kind {
         return Err(WordsFault::Kind { found: words[2] });
     }
+    // word 0 is the name, and the words 6 and 7 are 0
     Ok(Head {
         format: words[1],
         callers: words[3] as u32,
@@ -42,7 +44,8 @@ pub fn head_of(words: &[u64], kind: u64) -> Result<Head, WordsFault>
     })
 }
 
-/// Whether words begin with the head of some image.
+/// Whether words begin with the head of some image: at least eight words, of which the first is the name, with a known format and kind, two zeros at
+/// the end, 1 to 8 callers, and 64 to 16,384 lines.
 fn is_headed(words: &[u64]) -> bool
     ensures { IsTrue result ↔ IsHeaded words.now }
 {

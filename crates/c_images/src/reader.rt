@@ -28,8 +28,8 @@ pub enum WordsFault {
     Numbers,
 }
 
-/// The base in words with this head, from which a service of an object of the head's lines may start. A refusal names the first check that the words do
-/// not pass.
+/// The base in `words` with this `head`, from which a service of `object` may start; the object has as many lines as the head says. A refusal names
+/// the first check that the words do not pass.
 pub fn base_of<O: Object>(
     alloc: Global,
     object: &O,
@@ -46,13 +46,14 @@ pub fn base_of<O: Object>(
     let Ok(image) = image_of(alloc, words, head) else {
         return Err(WordsFault::Image(ImageFault::Memory));
     };
+    // recovery checks the image for this object; it does not look at whether a result's number is above the place
     match recover(alloc, object, &image) {
         Ok(base) => within(base),
         Err(fault) => Err(WordsFault::Image(fault)),
     }
 }
 
-/// The image in words with this head, in whichever format they are.
+/// The image in `words` with this `head`, in whichever of the two formats they are. `Err` is out of memory.
 fn image_of(alloc: Global, words: &[u64], head: Head) -> Result<Image, AllocError>
     requires { IsSaid words.now head }
     ensures { IfOk result (SaysReadable words.now head.lines) }
@@ -64,7 +65,7 @@ fn image_of(alloc: Global, words: &[u64], head: Head) -> Result<Image, AllocErro
     }
 }
 
-/// The image in words of format 1, which has the words of all replicas.
+/// The image in `words` of format 1, which has the words of all replicas after the head. `Err` is out of memory.
 fn replicas_image(alloc: Global, words: &[u64], head: Head) -> Result<Image, AllocError>
     requires said { IsSaid words.now head }
     requires format { format_in words.now ≡ 1 }
@@ -80,13 +81,15 @@ fn replicas_image(alloc: Global, words: &[u64], head: Head) -> Result<Image, All
     })
 }
 
-/// The image in words of format 2, with the words of the replica that the root names. Recovery looks at no other, so pairs for the others take no memory.
+/// The image in `words` of format 2, which has the words of one replica after the head: they are taken as those of the replica that the root names.
+/// Recovery looks at no other replica, so pairs for the others take no memory. `Err` is out of memory.
 fn region_image(alloc: Global, words: &[u64], head: Head) -> Result<Image, AllocError>
     requires said { IsSaid words.now head }
     requires format { format_in words.now ≡ 2 }
     ensures { IfOk result (SaysReadable words.now head.lines) }
 {
     let region = base_words(head.lines);
+    // where the replica begins in the words of all replicas
     let start = region * u64::from(root_replica(head.callers, head.root));
     let pairs = pairs_from(alloc, words, start)?;
     Ok(Image {
@@ -98,7 +101,8 @@ fn region_image(alloc: Global, words: &[u64], head: Head) -> Result<Image, Alloc
     })
 }
 
-/// Pairs for the words after the head that are not 0, of which the first word is put at the address `start`.
+/// Pairs of an address and a word, for the words after the head that are not 0. The first word after the head has the address `start`. `Err` is out
+/// of memory.
 fn pairs_from(alloc: Global, words: &[u64], start: u64) -> Result<Vec<(u64, u64)>, AllocError>
     requires enough { 8 ≤ length words.now }
     requires start { start ≤ 2 ^ 32 }
@@ -114,7 +118,8 @@ fn pairs_from(alloc: Global, words: &[u64], start: u64) -> Result<Vec<(u64, u64)
     Ok(pairs)
 }
 
-/// The base, where no number of its results is above its place.
+/// The base, where no number of its results is above its place; else the fault `Numbers`. A result's number is that of its caller's last entry
+/// applied.
 fn within(base: Base) -> Result<Base, WordsFault>
     ensures { MatchResult result (λ same. (same ≡ base) × NumbersWithin base) (λ fault. (fault ≡ Numbers) × (¬ NumbersWithin base)) }
 {
@@ -125,7 +130,7 @@ fn within(base: Base) -> Result<Base, WordsFault>
     }
 }
 
-/// Whether no number of a base's results is above its place.
+/// Whether no number of a base's results is above its place. A base has a result for each of 8 callers.
 fn has_numbers_within(base: &Base) -> bool
     ensures { IsTrue result ↔ NumbersWithin base.now }
 {
@@ -137,7 +142,7 @@ fn has_numbers_within(base: &Base) -> bool
     true
 }
 
-/// The number of a caller's result.
+/// The number of the caller's result in a base: that of its last entry applied, and 0 where the base has no such word.
 fn number_of(base: &Base, caller: u32) -> u64
     requires { caller < 8 }
     ensures { result ≡ slot_number caller base.now.words }

@@ -46,6 +46,7 @@ fn is_reply_slot(
     requires words { OBJECT_START ≤ length base.now.words }
     ensures { IfOk result (λ is. IsTrue is ↔ IsSlot (IsReplyOfKind kind) caller base.now.words) }
 {
+    // a result with the number 0 is of no entry, and holds no reply
     match outcome(base, caller) {
         Outcome::Never => Ok(true),
         Outcome::Applied { reply, .. } => is_kept_reply(alloc, &reply, kind),
@@ -72,6 +73,7 @@ fn is_document_reply(alloc: Global, words: &ReplyWords) -> Result<bool, AllocErr
     }
     match reply_of(alloc, words) {
         Ok(_) => Ok(true),
+        // the words are no reply of a document store, or it is not known, since memory ran out
         Err(OpFault::BadOp) => Ok(false),
         Err(OpFault::Memory) => Err(AllocError),
     }
@@ -86,6 +88,7 @@ fn is_queue_reply(alloc: Global, words: &ReplyWords) -> Result<bool, AllocError>
     }
     match fifo_reply_of(alloc, words) {
         Ok(_) => Ok(true),
+        // the words are no reply of a queue, or it is not known, since memory ran out
         Err(FifoFault::BadOp) => Ok(false),
         Err(FifoFault::Memory) => Err(AllocError),
     }

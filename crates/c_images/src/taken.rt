@@ -8,7 +8,7 @@ use crate::head::{HEAD, NAME, ONE_REGION};
 use cx_base::root_code;
 use cx_core::{HEAD_LINES, LINE_WORDS};
 
-/// How many words the region of an object of this many lines has.
+/// How many words the region of an object of this many `lines` has: the object's lines and those of the region's head, 8 words each.
 pub fn base_words(lines: u64) -> u64
     requires { lines ≤ 16384 }
     ensures { result ≡ region_words lines }
@@ -16,7 +16,7 @@ pub fn base_words(lines: u64) -> u64
     LINE_WORDS * (HEAD_LINES + lines)
 }
 
-/// How many words an image of one region has.
+/// How many words an image of one region has, for an object of this many `lines`: the head's, and the region's.
 pub fn base_image_words(lines: u64) -> u64
     requires { lines ≤ 16384 }
     ensures { result ≡ region_words lines + 8 }
@@ -24,7 +24,8 @@ pub fn base_image_words(lines: u64) -> u64
     base_words(lines) + HEAD as u64
 }
 
-/// Makes an image of the region that stands after the head: the root names the first replica at this place.
+/// Makes `words`, in which a region stands after 8 words, an image of that region, of format 2: it writes the head in the first 8 words. `kind` is
+/// the kind of the object, `callers` is how many callers the service has, and the root names the first replica at this `place`.
 pub fn write_base(kind: u64, callers: u32, lines: u64, place: u64, words: &mut [u64])
     requires callers { (1 ≤ callers) × (callers ≤ 8) }
     requires lines { lines ≤ 16384 }

@@ -11,7 +11,7 @@ use crate::head::{HEAD, NAME, REPLICAS};
 use cx_core::{HEAD_LINES, LINE_WORDS};
 use cx_table::Remains;
 
-/// How many words an image of a closed service has.
+/// How many words an image of what a closed service leaves has: the words of all replicas, two for each caller, and the head's.
 pub fn image_words(remains: &Remains) -> u64
     requires { AreRemainsWhole remains.now }
     ensures { result ≡ image_size remains.now.callers remains.now.lines + 8 }
@@ -38,7 +38,7 @@ pub fn write_image(remains: &Remains, kind: u64, choice: u64, words: &mut [u64])
     words[7] = 0;
 }
 
-/// Writes the words of all replicas.
+/// Writes after the head what the crash of this `choice` leaves of the words of all replicas.
 fn write_words(remains: &Remains, choice: u64, words: &mut [u64])
     requires whole { AreRemainsWhole remains.now }
     requires long { length words.old ≡ image_size remains.now.callers remains.now.lines + 8 }
@@ -49,7 +49,7 @@ fn write_words(remains: &Remains, choice: u64, words: &mut [u64])
     }
 }
 
-/// The root that is left.
+/// The root that the crash of this `choice` leaves: one of the codes published from the durable one on, picked by the choice.
 fn root_left(remains: &Remains, choice: u64) -> u64
     requires { 1 ≤ length remains.now.published.items }
     ensures { result ≡ left_root remains.now choice }
@@ -58,7 +58,7 @@ fn root_left(remains: &Remains, choice: u64) -> u64
     remains.published[at as usize]
 }
 
-/// What is left of a word. Recovery gives these words as pairs, for which it takes memory.
+/// What the crash of this `choice` leaves of the word `at`: what was durable where the word is not dirty, and else a value that the choice picks.
 fn word_left(remains: &Remains, choice: u64, at: usize) -> u64
     requires whole { AreRemainsWhole remains.now }
     requires at { at < image_size remains.now.callers remains.now.lines }
@@ -71,7 +71,8 @@ fn word_left(remains: &Remains, choice: u64, at: usize) -> u64
     lost_word(choice, at as u64, remains.volatile[at], durable)
 }
 
-/// What is left of a dirty word.
+/// What the crash of this `choice` leaves of a dirty word `at`: choice 0 leaves what was durable, 1 what was stored last, `volatile`, and each other
+/// choice the product of the choice and `at + 1`, modulo 2^64.
 fn lost_word(choice: u64, at: u64, volatile: u64, durable: u64) -> u64
     requires { at < 2 ^ 63 }
     ensures { result ≡ any_value choice at (record { value = volatile; durable = durable; mark = Dirty }) }

@@ -72,6 +72,7 @@ module _ {O : Type 0} (r : Running O) where
   none_elsewhere (x ∷ xs) none = absurd (omega (arith, none))
 
   module _ (given : List Handed) (handover : ReturnQueue O) (pass : Pass (HandedIn O) (Knows O)) (share : Option (Arc (Running O) Global)) (gathered : List Handed) (has : HasTaken r given handover pass share gathered) (many : r.callers ≤ length gathered) (tells : TellsAll (view pass)) where
+    -- the callers that the pass took out, those that others are to hand in and those left elsewhere are all callers of the service, each once
     counted : (h : ℕ → ℕ) → total_weight (by_number h) has.taken + (total_weight h tells.due + total_weight (by_number h) tells.left) ≡ total_weight h (range_with_len 0 r.callers)
     counted h =
         let held : pass_weighs h (view pass) ≡ 0 + total_weight (by_number h) has.taken = ap (pass_weighs h) has.is in
@@ -81,6 +82,7 @@ module _ {O : Type 0} (r : Running O) where
     -- where as many were gathered as the service has callers, none is elsewhere
     few : (length tells.due ≡ 0) × (length tells.left ≡ 0)
     few =
+        -- each caller weighs 1, so that weights are lengths
         let all = counted (λ _. 1) in let same = has.same (λ _. 1) in
         let long = units Handed gathered in let took = units Handed has.taken in let due = units ℕ tells.due in let left = units Handed tells.left in let range = units ℕ (range_with_len 0 r.callers) in let callers = length-range_with_len 0 r.callers in
         (omega (arith, many, all, same, long, took, due, left, range, callers), omega (arith, many, all, same, long, took, due, left, range, callers))
@@ -137,6 +139,7 @@ module _ {O : Type 0} (r : Running O) where
   own_due due handover pass is = subst (λ (ns : List ℕ). IsPassIn r ns handover pass) (sym (ap (λ (v : Knows O). v.due) is.is)) is
 
 module _ {O : Type 0} (line_count : O → ℕ) (lawful : O → List ℕ → Type 0) (step : O → List ℕ → List ℕ → List ℕ × List ℕ) (reads : O → List ℕ → Bool) where
+  -- what closing the last session has as its result is the result of closing the session `s`
   pub closes : (s : Session O) (closing : Closing O) → ClosesTo line_count lawful step reads (arc_value s.service) (arc_value s.exit.handover) (kept_list s.handed) closing → Closes line_count lawful step reads s closing
   closes s Others to = to
   closes s (Again session) to = absurd to

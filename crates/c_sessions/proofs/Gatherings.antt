@@ -28,6 +28,7 @@ numbers_same h None = refl
 numbers_same h (Some g) = refl
 
 module _ {O : Type 0} where
+  -- each pass knows that its queue is of the service `r`; `views` are what the passes know
   abbrev Known : Running O → List (Knows O) → Type 0
   Known r views = (pass : ℕ) (v : Knows O) → get_elem? views pass ≡ some v → v.home ≡ Some r
 
@@ -40,13 +41,16 @@ module _ {O : Type 0} where
   is_only one v views zero only at = sym (some-injective one v (sym (ap (λ l. get_elem? l 0) only) ∙ at))
   is_only one v views (suc pass) only at = absurd (some-ne-none v (sym at ∙ ap (λ l. get_elem? l (suc pass)) only))
 
+  -- a queue of which a pass knows the service is not new
   not_new : (r : Running O) (v : Knows O) (items : List (HandedIn O)) (views : List (Knows O)) (pass : ℕ) → v.home ≡ Some r → IsNewQueue items views → get_elem? views pass ≡ some v → ⊥
   not_new r v items views pass home (inl new) at = none_known r (sym (ap (λ (u : Knows O). u.home) (is_only new_pass v views pass new.1 at)) ∙ home)
   not_new r v items views pass home (inr o) at = none_known r (sym (ap (λ (u : Knows O). u.home) (is_only (offering (arc_value o.share.service)) v views pass o.views_are at)) ∙ home)
 
+  -- where each pass knows the service, each does after one of them knows `w`, which has the service too
   known_set : (r : Running O) (views : List (Knows O)) (pass : ℕ) (w : Knows O) → w.home ≡ Some r → Known r views → Known r (set views pass w)
   known_set r views pass w home known j u e = ⊎_elim (λ x. subst (λ (y : Knows O). y.home ≡ Some r) x.1 home) (λ x. known j u x.1) (at_set views pass j w u e)
 
+  -- where each pass knows the service, each does after a new pass knows `w`, which has the service too
   known_snoc : (r : Running O) (views : List (Knows O)) (w : Knows O) → w.home ≡ Some r → Known r views → Known r (views ++ w ∷ [])
   known_snoc r views w home known j u e = ⊎_elim (λ x. known j u x) (λ x. subst (λ (y : Knows O). y.home ≡ Some r) x home) (at_snoc views w u j e)
 
@@ -55,12 +59,13 @@ module _ {O : Type 0} where
   all_of part [] = []
   all_of part (u ∷ us) = part u ++ all_of part us
 
+  -- what all passes have of one kind weighs as much as what each has, added up
   all_weigh : {X : Type 0} (part : Knows O → List X) (f : X → ℕ) (us : List (Knows O)) → total_weight f (all_of part us) ≡ total_weight (λ (u : Knows O). total_weight f (part u)) us
   unfolding all_of
   all_weigh part f [] = refl
   all_weigh part f (u ∷ us) = omega (arith, total_both f (part u) (all_of part us), all_weigh part f us)
 
-  -- what all passes but one have of one kind
+  -- Of one kind, what all passes have weighs as much as what the pass `v` has and what the others have: this gives the list of the others.
   others_weigh : {X : Type 0} (part : Knows O → List X) (views : List (Knows O)) (pass : ℕ) (v : Knows O) → get_elem? views pass ≡ some v
       → (others : List X) × ((f : X → ℕ) → total_weight (λ (u : Knows O). total_weight f (part u)) views ≡ total_weight f (part v) + total_weight f others)
   others_weigh part [] pass v at = absurd (some-ne-none v (sym at))
@@ -69,7 +74,7 @@ module _ {O : Type 0} where
       let rest = others_weigh part us pass v at in
       (part u ++ rest.0, λ f. omega (arith, rest.1 f, total_both f (part u) rest.0))
 
-  -- what passes are to hand in, and what they took out
+  -- the callers that are with passes weigh as much as those that these are to hand in and those that they took out
   both_weigh : (h : ℕ → ℕ) (us : List (Knows O)) → total_weight (pass_weighs h) us ≡ total_weight (λ (u : Knows O). total_weight h u.due) us + total_weight (λ (u : Knows O). total_weight (by_number h) u.taken) us
   both_weigh h [] = refl
   both_weigh h (u ∷ us) = omega (arith, both_weigh h us)
@@ -78,6 +83,7 @@ module _ {O : Type 0} where
   pub begins : KeepsOrIsNew {O = O} [] (new_pass ∷ [])
   begins = inl (inl (refl, refl))
 
+  -- where there is one pass, and it knows `w` from now on, `w` is all that passes know
   only_set : (one w : Knows O) (v : Knows O) (views : List (Knows O)) (pass : ℕ) → views ≡ one ∷ [] → get_elem? views pass ≡ some v → set views pass w ≡ w ∷ []
   only_set one w v views zero only at = ap (λ l. set l 0 w) only
   only_set one w v views (suc pass) only at = absurd (some-ne-none v (sym at ∙ ap (λ l. get_elem? l (suc pass)) only))
@@ -154,6 +160,7 @@ module _ {O : Type 0} where
           each = All-push (IsHandedInAt (Some k.service)) items x k.each (subst (λ (home : Option (Running O)). IsHandedInAt home x) here is);
           known = known_set k.service views pass w here k.known;
           callers = λ h. (
+              -- the pass is to hand in nobody now, and the queue has its caller
               let s = total_set (pass_weighs h) views pass v w at in
               let was : total_weight h v.due ≡ total_weight (by_number h) (kept_list x.handed) = ap (total_weight h) due ∙ numbers_same h x.handed in
               omega (arith, s, was, total_both (λ (y : HandedIn O). total_weight (by_number h) (kept_list y.handed)) items (x ∷ []), k.callers h));
@@ -206,6 +213,7 @@ module _ {O : Type 0} where
   callers_of [] = []
   callers_of (x ∷ xs) = kept_list x.handed ++ callers_of xs
 
+  -- the callers in the queue weigh as much as the queue's items
   callers_same : (f : Handed → ℕ) (xs : List (HandedIn O)) → total_weight f (callers_of xs) ≡ callers_weigh f xs
   unfolding callers_of
   callers_same f [] = refl

@@ -33,7 +33,8 @@ impl SessionCatchUp {
     }
 }
 
-/// Has the caller catch up with `place`. A caller that is stopped or has a linked entry is out of turn, and stays as it is.
+/// Has the caller `handed` catch up with `place`. A caller that is stopped or has a linked entry is out of turn, and stays as it is. The result is
+/// the caller in its state after the call, and what is answered.
 pub(crate) fn catch_up_idle<O: Object>(
     service: &Service<O>,
     handed: Handed,

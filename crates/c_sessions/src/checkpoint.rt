@@ -34,8 +34,9 @@ impl SessionCheckpoint {
     }
 }
 
-/// Has the caller take an image of the object into `into`, in at most the given number of tries. A caller that is stopped or has a linked entry is out of
-/// turn, and stays as it is.
+/// Has the caller `handed` take an image of the object into `into`, in at most the given number of tries. A caller that is stopped or has a linked
+/// entry is out of turn, and stays as it is. The result is the caller in its state after the call, and what is answered. `into` is as long as the
+/// words of a base of the service, and may have any words where no image was taken.
 pub(crate) fn take_image<O: Object>(
     service: &Service<O>,
     handed: Handed,

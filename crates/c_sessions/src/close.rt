@@ -71,6 +71,7 @@ impl<O: Object> Session<O> {
             gathered,
             out,
         } = exit;
+        // the caller goes into the queue, with its share of the service; where it does not, the session is put together again
         if let Err(back) = handover.hand_in(&mut pass, HandedIn { service, handed }) {
             let exit = ClosingState {
                 handover,
@@ -85,12 +86,14 @@ impl<O: Object> Session<O> {
                 place,
             });
         }
+        // `came` is how many sessions counted their caller as handed in before this one
         let came = handover.came.fetch_add(1, Ordering::SeqCst);
         let last = u64::from(handover.callers) - 1;
         // where the service has one caller, this session is the last
         if came != last && last > 0 {
             return Closing::Others;
         }
+        // this session counted its caller last: it goes on to take all callers out of the queue and to close the service
         let exit = ClosingState {
             handover,
             pass,
@@ -108,6 +111,8 @@ impl<O: Object> Session<O> {
 }
 
 /// Gathers the callers that are still in the queue, and closes the service where all callers are gathered then and no share of it is elsewhere.
+/// `rest` is what the session that was closed last has of the service `r`; that session handed in `given`. It answers `Closed`, `Kept`, `Missing` or
+/// `Shared`.
 pub fn close_rest<O: Object>(alloc: Global, rest: Unclosed<O>) -> Closing<O>
     requires { (r : Running O) × (given : List handed_type.Handed) × IsSessionRestOf r given rest }
     ensures { (r : Running O) (given : List handed_type.Handed) → IsSessionRestOf r given rest → ClosesTo O.line_count O.lawful O.step O.only_reads r (arc_value rest.exit.handover) given result }
@@ -120,6 +125,7 @@ pub fn close_rest<O: Object>(alloc: Global, rest: Unclosed<O>) -> Closing<O>
         out,
     } = exit;
     let (service, gathered) = gather(&handover, &mut pass, service, gathered);
+    // fewer callers than the service has: one is missing
     if gathered.len() < handover.callers as usize {
         let exit = ClosingState {
             handover,
@@ -129,10 +135,12 @@ pub fn close_rest<O: Object>(alloc: Global, rest: Unclosed<O>) -> Closing<O>
         };
         return Closing::Missing(Unclosed { service, exit });
     }
+    // for the proof: the callers that the pass took out are all of the service, as they were handed in
     handover.learn(&mut pass);
     let Some(service) = service else {
         unreachable!()
     };
+    // the service is had alone where this share of it is the only one left
     match Arc::try_unwrap(service) {
         Ok(service) => {
             let callers = in_order(&service, gathered, out);
@@ -153,7 +161,8 @@ pub fn close_rest<O: Object>(alloc: Global, rest: Unclosed<O>) -> Closing<O>
     }
 }
 
-/// Closes a service with all its callers, which have this account.
+/// Closes the service in `kept` with all its callers, which are in the order of their numbers. `account` is the pass that took them out of the
+/// queue. The result is `Closed`, or `Kept` where memory ran out.
 fn close_all<O: Object>(alloc: Global, kept: Kept<O>, account: Account<O>) -> Closing<O>
     requires { AreSeats kept.service (seats_of kept.callers.items) }
     ensures { (handover : ReturnQueue O) (given : List handed_type.Handed) → AreAccounted handover given account kept.callers.items → ClosesTo O.line_count O.lawful O.step O.only_reads kept.service handover given result }
@@ -164,7 +173,8 @@ fn close_all<O: Object>(alloc: Global, kept: Kept<O>, account: Account<O>) -> Cl
     }
 }
 
-/// Closes a service that was not closed since memory ran out. `Err` means that it ran out again, and hands all back as it was.
+/// Closes the service in `kept`, which was not closed since memory ran out, with all its callers. `Ok` is what the closed service leaves. `Err`
+/// means that memory ran out again, and hands all back as it was.
 pub fn close_kept<O: Object>(alloc: Global, kept: Kept<O>) -> Result<Remains, Kept<O>>
     requires { AreSeats kept.service (seats_of kept.callers.items) }
     ensures { MatchResult result (IsClosedWith O.line_count O.lawful O.step O.only_reads kept.service (seats_of kept.callers.items)) (λ back. back ≡ kept) }

@@ -13,7 +13,8 @@ use cx_service::{Handed, Service};
 use std::alloc::{AllocError, Global};
 use std::sync::Arc;
 
-/// A session's pass of the queue in which callers are handed in, and room for all of them, since the last one gathers them.
+/// What a session needs to be closed: `handover` is the queue in which callers are handed in, and `pass` the session's pass of it. `gathered` is
+/// room for the callers that the session takes out of the queue if it is closed last, and `out` is room for them in the order of their numbers.
 #[derive(Drop)]
 pub struct ClosingState<O: Object> {
     pub(crate) handover: Arc<ReturnQueue<O>, Global>,
@@ -37,7 +38,8 @@ pub struct Account<O: Object> {
 }
 
 impl<O: Object> ClosingState<O> {
-    /// What one session needs to be closed: a pass for the first caller that `pass` is still to hand in, and room for all callers. `Err` means out of memory.
+    /// What one session needs to be closed: a pass for the first caller that `pass` is still to hand in, and room for all `callers` of the service.
+    /// `pass` keeps the other callers. `Err` means out of memory.
     pub(crate) fn another(
         alloc: Global,
         service: &Service<O>,

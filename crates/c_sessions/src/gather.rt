@@ -13,8 +13,9 @@ use cx_service::{Handed, Service};
 use std::alloc::Global;
 use std::sync::Arc;
 
-/// Takes callers out of the queue, beside those that were taken out before, until they are as many as the service has, or none is found. Of the
-/// shares of the service that come with them one is kept, the last.
+/// Takes callers out of the queue `handover`, beside those that were taken out before, `gathered`, until they are as many as the service has, or
+/// none is found. Of the shares of the service that come with them one is kept, the last. The result is that share and all callers taken out.
+/// `gathered` has to have room for all callers of the service, so no memory is taken.
 pub(crate) fn gather<O: Object>(
     handover: &ReturnQueue<O>,
     pass: &mut Pass<HandedIn<O>, Knows<O>>,
@@ -29,6 +30,7 @@ pub(crate) fn gather<O: Object>(
     let mut share = share;
     let mut gathered = gathered;
     while gathered.len() < handover.callers as usize {
+        // none is found: a caller is missing, or others were in the way
         let Some(HandedIn { service, handed }) = handover.take(pass) else {
             return (share, gathered);
         };

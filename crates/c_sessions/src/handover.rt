@@ -19,7 +19,7 @@ use std::sync::atomic::AtomicU64;
 /// How many times a push or a pop is tried at most. Each other caller is in the way at most once.
 const TRIES: u32 = 64;
 
-/// The queue, how many of the service's callers were handed in, and how many it has.
+/// The queue is `line`. `came` counts the callers that were handed in so far, and `callers` is how many callers the service has.
 #[derive(Drop)]
 pub struct ReturnQueue<O: Object> {
     pub(crate) line: ReturnedCallers<O>,
@@ -36,7 +36,7 @@ pub(crate) enum NoQueue {
     InTheWay,
 }
 
-/// An empty queue for this many callers of a service, and a pass of it that is to hand in all of them.
+/// An empty queue for the `callers` callers of the `service`, and a pass of it that is to hand in all of them. `Err` says why there is none.
 pub(crate) fn open_for<O: Object>(
     alloc: Global,
     service: &Arc<Service<O>, Global>,
@@ -55,6 +55,7 @@ pub(crate) fn open_for<O: Object>(
         service: share,
         handed: None,
     };
+    // a share of the service goes through the queue once, so that the pass learns which service its queue is of
     // no other thread has the queue yet, so nobody is in the way of this push and of the pop after it
     let Ok(()) = line.try_push_as::<Opens>(&mut pass, share) else {
         return Err(NoQueue::InTheWay);
@@ -71,7 +72,8 @@ pub(crate) fn open_for<O: Object>(
 }
 
 impl<O: Object> ReturnQueue<O> {
-    /// Makes a pass that is to hand in the first caller that `pass` is still to hand in. `pass` keeps the others.
+    /// Makes a pass that is to hand in the first caller that `pass` is still to hand in, and returns it. `pass` keeps the others: `due` lists the
+    /// numbers of the callers that a pass is still to hand in.
     pub(crate) fn share(
         &self,
         service: &Service<O>,
@@ -85,7 +87,8 @@ impl<O: Object> ReturnQueue<O> {
         self.line.another::<Parts>(pass)
     }
 
-    /// Puts the pass's caller into the queue, with its share of the service. `Err` hands both back: others were in the way.
+    /// Puts `given`, the caller of `pass` with its share of the service, into the queue. `given` has to be of the pass's service and the one caller
+    /// that the pass is still to hand in. `Err` hands both back, and leaves what the pass knows: others were in the way in each try.
     pub(crate) fn hand_in(
         &self,
         pass: &mut Pass<HandedIn<O>, Knows<O>>,
@@ -97,6 +100,7 @@ impl<O: Object> ReturnQueue<O> {
     {
         let mut given = given;
         for _ in 0..TRIES {
+            // a push that others were in the way of gives the caller back, for the next try
             match self.line.try_push_as::<Gives>(pass, given) {
                 Ok(()) => return Ok(()),
                 Err(back) => given = back,
@@ -105,7 +109,8 @@ impl<O: Object> ReturnQueue<O> {
         Err(given)
     }
 
-    /// Takes a handed-in caller out of the queue. `None` where the queue is empty, or others were in the way in each try.
+    /// Takes a caller that was handed in out of the queue, and `pass` knows it from then on. `None` where the queue is empty, or others were in the
+    /// way in each try; what the pass knows stays then. `pass` has to know which service its queue is of.
     pub(crate) fn take(&self, pass: &mut Pass<HandedIn<O>, Knows<O>>) -> Option<HandedIn<O>>
         requires { IsPassOf self.now.line pass.old × (r : Running O) × ((view pass.old).home ≡ Some r) }
         ensures pass { IsPassOf self.now.line pass.new }

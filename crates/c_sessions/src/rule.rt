@@ -16,8 +16,9 @@ pub struct HandedIn<O: Object> {
     pub handed: Option<Handed>,
 }
 
-/// What a pass knows: the service of which it put a share into the new queue, the service once it is known, the numbers of the callers that it is to
-/// hand in, those that it handed in, and those that it took out, each as it was in that step. No value of it is made.
+/// What a pass knows, as a ghost value: no value of it is made in memory. `offered` is the service of which the pass put a share into the new queue.
+/// `home` is the service that the pass belongs to, once it knows it. `due` has the numbers of the callers that the pass is still to hand in. `given`
+/// has the callers that it put into the queue, and `taken` those that it took out, each as it was in that step.
 pub struct Knows<O: Object> {
     pub offered: Option<Service<O>>,
     pub home: Option<Service<O>>,
@@ -31,6 +32,7 @@ pub struct Knows<O: Object> {
 /// and was answered, is what was taken out or still lies in the queue.
 pub struct OfOneService;
 
+// `holds` relates what lies in the queue and what each pass knows: it is true after each step. `first` is what the pass of a new queue knows.
 impl<O: Object> Protocol<HandedIn<O>, Knows<O>> for OfOneService {
     ghost use Rattle.c_sessions.specs.Rule.{KeepsOrIsNew, new_pass};
 
@@ -45,6 +47,7 @@ pub type ReturnedCallers<O> = RuledArrayQueue<HandedIn<O>, Knows<O>, OfOneServic
 /// A share without a caller is put into the new queue, by which the first pass learns the service.
 pub(crate) struct Opens;
 
+// In `then`, `v` is what the pass knew before the push, `x` is what is pushed, and `w` is what the pass knows after it.
 impl<O: Object> Outcome<HandedIn<O>, Knows<O>> for Opens {
     ghost use Rattle.std.specs.Prelude.{◌≡◌};
     ghost use Rattle.std.specs.Arc.{arc_value};
@@ -56,6 +59,8 @@ impl<O: Object> Outcome<HandedIn<O>, Knows<O>> for Opens {
 /// The share without a caller is taken out of the new queue again, and the first pass is to hand in all callers from then on.
 pub(crate) struct Starts;
 
+// In `then`, `v` is what the pass knew before the pop, `x` is what is popped, and `w` is what the pass knows after it: the service offered is its
+// home.
 impl<O: Object> Outcome<HandedIn<O>, Knows<O>> for Starts {
     ghost use Rattle.std.specs.Prelude.{◌≡◌};
     ghost use Rattle.c_sessions.specs.Rule.{pass_of_all};
@@ -66,6 +71,7 @@ impl<O: Object> Outcome<HandedIn<O>, Knows<O>> for Starts {
 /// A pass is made for the first caller that another pass is to hand in; the other pass is to hand in one caller less from then on.
 pub(crate) struct Parts;
 
+// `v` is what the pass knew before. `left` is what it knows after, and `right` is what the new pass knows.
 impl<O: Object> Split<Knows<O>> for Parts {
     ghost use Rattle.c_sessions.specs.Rule.{without_first_due, first_due};
 
@@ -77,6 +83,7 @@ impl<O: Object> Split<Knows<O>> for Parts {
 /// A pass puts its caller into the queue, and knows from then on that it handed this caller in.
 pub(crate) struct Gives;
 
+// In `then`, `v` is what the pass knew before the push, `x` is the caller that is pushed, and `w` is what the pass knows after it.
 impl<O: Object> Outcome<HandedIn<O>, Knows<O>> for Gives {
     ghost use Rattle.std.specs.Prelude.{◌≡◌};
     ghost use Rattle.c_sessions.specs.Rule.{pass_with_given};
@@ -87,6 +94,8 @@ impl<O: Object> Outcome<HandedIn<O>, Knows<O>> for Gives {
 /// A pass takes a caller out of the queue, and knows this caller, as it was handed in, from then on.
 pub(crate) struct Takes;
 
+// In `then`, `v` is what the pass knew before the pop, `x` is the caller that is popped, and `w` is what the pass knows after it. `v.home` is the
+// service that the pass belongs to: `x` is a caller of it, with a share of it.
 impl<O: Object> Outcome<HandedIn<O>, Knows<O>> for Takes {
     ghost use Rattle.std.specs.Prelude.{◌≡◌};
     ghost use Rattle.c_sessions.specs.Rule.{IsHandedInAt, pass_with_taken};
@@ -94,6 +103,7 @@ impl<O: Object> Outcome<HandedIn<O>, Knows<O>> for Takes {
     ghost then = { λ v x w. IsHandedInAt v.home x × (w ≡ pass_with_taken v x) };
 }
 
+// What a pass that knows `v` learns of the queue while `items` lie in it: where all callers of the service are.
 impl<O: Object> Lesson<HandedIn<O>, Knows<O>> for Takes {
     ghost use Rattle.c_sessions.specs.Rule.{TellsCallers};
 

@@ -17,8 +17,9 @@ use cx_service::{Handed, Service};
 use std::alloc::Global;
 use std::sync::Arc;
 
-/// A share of a service, with one of its callers in whichever state that is: `handed` is `None` only within a call. The place is the greatest that the
-/// session was answered at or caught up with, 0 at first.
+/// A share of a service, with one of its callers, `handed`, which is idle, has a linked entry or is stopped; `None` only within a call. `exit` is
+/// what the session needs to be closed. `place` is the greatest place that the session was answered at, caught up with or took an image at, 0 at
+/// first.
 #[derive(Drop)]
 pub struct Session<O: Object> {
     pub(crate) service: Arc<Service<O>, Global>,
@@ -69,7 +70,8 @@ impl<O: Object> Session<O> {
         called
     }
 
-    /// Drives the linked entry to its answer, in at most the given number of attempts.
+    /// Drives the linked entry to its answer, in at most the given number of attempts. `Done` has the answer's place, and `reply` has the reply
+    /// then; `reply` may have any words after another result. `OutOfTurn` where the caller has no linked entry.
     pub fn finish(&mut self, reply: &mut OpWords, tries: Tries) -> Called
         requires opened { IsSessionOpen self.old }
         ensures { LeavesOpen self.new (FinishesIn tries.count self.old result self.new reply.new) }
@@ -140,6 +142,7 @@ impl<O: Object> Session<O> {
     }
 }
 
+// It compiles only where a `T` may be sent to another thread, and does nothing.
 const fn goes_to_a_thread<T: Send>() {}
 
 /// A check by the compiler, which does nothing: a session may go to another thread where its object may go to another thread and be shared by threads.

@@ -56,6 +56,7 @@ pub fn open_from<O: Object>(
     requires { AreFewCallers callers → AreFewLines (O.line_count object) → LawfulBase (O.line_count object) (O.lawful object) base.now }
     ensures { MatchResult result (λ sessions. AreOpenSessions object (O.line_count object) callers base.now sessions.items) (IsOpenFault callers (O.line_count object)) }
 {
+    // the step limit of each caller: the greatest number that there is
     let Ok(limits) = Vec::from_elem(alloc, u64::MAX, callers as usize) else {
         return Err(OpenFault::Start(StartFault::Memory));
     };
@@ -69,7 +70,8 @@ pub fn open_from<O: Object>(
     }
 }
 
-/// A session for each caller of a service, in order.
+/// A session for each caller of the `service`, in order. `callers` are all its callers, idle and in the order of their numbers. `Err` says why there
+/// are none: memory ran out, or the new queue did not take its first entry or give it back.
 fn shared<O: Object>(
     alloc: Global,
     service: Service<O>,
@@ -85,10 +87,12 @@ fn shared<O: Object>(
     let Ok(service) = Arc::new(alloc, service) else {
         return Err(NoQueue::Memory);
     };
+    // the queue in which closed sessions hand in their callers, and a pass that is to hand in all of them
     let (handover, mut pass) = open_for(alloc, &service, count as u32)?;
     let Ok(handover) = Arc::new(alloc, handover) else {
         return Err(NoQueue::Memory);
     };
+    // each session gets its caller, a share of the service, and a pass that is to hand in this caller
     let mut sessions = Vec::new(alloc);
     for caller in callers {
         let Ok(exit) = ClosingState::another(alloc, &service, count, &handover, &mut pass) else {

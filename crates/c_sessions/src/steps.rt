@@ -40,7 +40,8 @@ impl Called {
     }
 }
 
-/// Does an operation of an idle caller. A caller that is stopped or has a linked entry is out of turn, and stays as it is.
+/// Does the operation `op` by the caller `handed`, if it is idle. A caller that is stopped or has a linked entry is out of turn, and stays as it is.
+/// The result is the caller in its state after the call, and what is answered; `reply` has the reply where that is `Done`.
 pub(crate) fn call_idle<O: Object>(
     service: &Service<O>,
     handed: Handed,
@@ -57,7 +58,8 @@ pub(crate) fn call_idle<O: Object>(
     }
 }
 
-/// Drives the linked entry of a caller to its answer. A caller without a linked entry is out of turn, and stays as it is.
+/// Drives the linked entry of the caller `handed` to its answer. A caller without a linked entry is out of turn, and stays as it is. The result is
+/// the caller in its state after the call, and what is answered; `reply` has the reply where that is `Done`.
 pub(crate) fn finish_linked<O: Object>(
     service: &Service<O>,
     handed: Handed,
@@ -73,7 +75,8 @@ pub(crate) fn finish_linked<O: Object>(
     }
 }
 
-/// Does an operation of an idle caller: by a read beside the queue where it only reads, and as an entry of the queue where it does not.
+/// Does the operation `op` by an idle caller: by a read beside the log where it only reads, and as an entry of the log where it does not. The result
+/// is the caller in its state after the call, and what is answered.
 fn read_or_enter<O: Object>(
     service: &Service<O>,
     caller: Caller,
@@ -91,7 +94,8 @@ fn read_or_enter<O: Object>(
     }
 }
 
-/// Does an operation that only reads, by a read beside the queue.
+/// Does the operation `op`, which only reads, by a read beside the log. It answers `Done` with the place of the read, `Again` where no try was
+/// answered, or `Stopped`; and it gives back the caller, idle or stopped.
 fn read_idle<O: Object>(
     service: &Service<O>,
     caller: Caller,
@@ -110,7 +114,8 @@ fn read_idle<O: Object>(
     }
 }
 
-/// Enters an operation into the queue, and drives it to its answer.
+/// Links the operation `op` into the log as an entry, and drives the entry to its answer. Where it is not linked, the caller is idle again, or
+/// stopped, and the answer says why.
 fn enter<O: Object>(
     service: &Service<O>,
     caller: Caller,
@@ -130,7 +135,8 @@ fn enter<O: Object>(
     }
 }
 
-/// Drives a linked entry to its answer.
+/// Drives the entry of `linked` to its answer, in at most the given number of attempts. It answers `Done` with the place after the entry, `Pending`
+/// where the entry is not answered yet, or `Stopped`; and it gives back the caller: idle, with its linked entry, or stopped.
 fn drive<O: Object>(
     service: &Service<O>,
     linked: Linked,

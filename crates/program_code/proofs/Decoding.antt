@@ -6,6 +6,7 @@ use Rattle.program_code.specs.Program.{DecodesTo, decoded}
 use Rattle.program_code.specs.declared.instruction.Instruction.{Instruction}
 use Rattle.program_code.specs.declared.instruction.Instruction.TheVariants.{Exit}
 
+-- where `code` is what the first `n` words decode to, and the next word decodes to `i`, `code` and then `i` is what the first `n + 1` decode to
 pub one_more : (words : List ℕ) (n : ℕ) (code next : List Instruction) (i : Instruction) →
     DecodesTo words n code → decoded words n ≡ Ok i → next ≡ code ++ (i ∷ []) → DecodesTo words (n + 1) next
 one_more words n code next i d is e =

@@ -15,13 +15,16 @@ use Rattle.program_code.specs.declared.spelling.FaultKind.TheVariants as fault
 abbrev pub is_known : register_type.Register → Bool
 is_known r = nat_le r.number 10
 
+-- whether a register may be written
 abbrev pub is_writable : register_type.Register → Bool
 is_writable r = nat_le r.number 9
 
+-- whether an operand may be read
 abbrev pub is_operand : operand_type.Operand → Bool
 is_operand (Number n) = true
 is_operand (In r) = is_known r
 
+-- whether each register that an instruction names may be used as it is used there
 abbrev pub has_registers : instruction_type.Instruction → Bool
 has_registers (Compute kind width to by) = is_writable to && is_operand by
 has_registers (Wide to number) = is_writable to
@@ -36,9 +39,11 @@ has_registers Rest = true
 abbrev pub is_rest : List ℕ → ℕ → Bool
 is_rest words at = nat_lt 0 at && slice_index words (at - 1) % 2 ^ 8 == 0x18
 
+-- whether an instruction begins at a place
 abbrev pub is_instruction : List ℕ → ℕ → Bool
 is_instruction words at = nat_lt at (length words) && not (is_rest words at)
 
+-- whether an instruction that jumps or calls leads to the beginning of an instruction
 abbrev pub leads_right : List ℕ → instruction_type.Instruction → Bool
 leads_right words (Jump test width left right target) = is_instruction words target
 leads_right words (Call target) = is_instruction words target
@@ -51,6 +56,7 @@ follower at (Jump Always width left right target) = None
 follower at (Wide to number) = Some (at + 2)
 follower at _ = Some (at + 1)
 
+-- whether the place that an instruction goes on to, if there is one, is within the words
 abbrev pub is_within : List ℕ → Option ℕ → Bool
 is_within words None = true
 is_within words (Some next) = nat_lt next (length words)
@@ -60,10 +66,12 @@ abbrev pub ruled : List ℕ → ℕ → instruction_type.Instruction → Spelled
 ruled words at i =
     if has_registers i then (if leads_right words i then (if is_within words (follower at i) then Ok i else Err fault.End) else Err fault.Target) else Err fault.Register
 
+-- what a word spells, where it keeps the rules
 abbrev pub ruled_spelling : List ℕ → ℕ → Spelled → Spelled
 ruled_spelling words at (Err kind) = Err kind
 ruled_spelling words at (Ok i) = ruled words at i
 
+-- the instruction at a place: the second word of a number of 64 bits, or what the word and the one after it spell under the rules
 abbrev pub decoded : List ℕ → ℕ → Spelled
 decoded words at = if is_rest words at then Ok Rest else ruled_spelling words at (spelled (slice_index words at) (slice_index words (at + 1)) at)
 
@@ -92,12 +100,14 @@ abbrev pub IsFaultByLength : Bool → List ℕ → ℕ → fault_type.ProgramFau
 IsFaultByLength true words count f = IsFirstInstructionFault (take count words) f
 IsFaultByLength false words count f = (f.kind ≡ fault.Length) × (f.at ≡ 0)
 
+-- why words are no program with `count` instructions
 abbrev pub IsFirstProgramFault : List ℕ → ℕ → fault_type.ProgramFault → Type 0
 IsFirstProgramFault words count f = IsFaultByLength (has_length words count) words count f
 
--- what a program has
+-- the words of a program
 abbrev pub program_words : program_type.Program → List ℕ
 program_words program = program.words.items
 
+-- the decoded instructions of a program
 abbrev pub instructions_of : program_type.Program → List instruction_type.Instruction
 instructions_of program = program.code.items

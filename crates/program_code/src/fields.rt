@@ -5,14 +5,15 @@ ghost use Rattle.program_code.specs.Spelling as spec;
 
 use crate::instruction::{Arith, Operand, Register, Test, Unit};
 
-/// The class of an instruction.
+/// The class of the instruction that `word` spells: 0 is a number of 64 bits, 1 a load, 2 and 3 are stores, 4 and 7 are arithmetic, and 5 and 6 are
+/// jumps, calls and the exit.
 pub fn class_in(word: u64) -> u64
     ensures { result ≡ spec.class_in word }
 {
     word % 8
 }
 
-/// The code of an operation of arithmetic or of a jump.
+/// The code of an operation of arithmetic, of a jump, of a call or of the exit: 4 bits, so 0 to 15.
 pub fn operation_code_in(word: u64) -> u64
     ensures { result ≡ spec.operation_code_in word }
 {
@@ -26,14 +27,14 @@ pub fn source_in(word: u64) -> u64
     (word >> 3) % 2
 }
 
-/// The mode of a load or a store.
+/// The mode of a load or a store: 3 is a plain one, 4 a load that extends the sign, and 6 an atomic operation.
 pub fn mode_in(word: u64) -> u64
     ensures { result ≡ spec.mode_in word }
 {
     (word >> 5) % 8
 }
 
-/// The code of how many bytes a load or a store moves.
+/// The code of how many bytes a load or a store moves: 0 is four, 1 is two, 2 is one, and 3 is eight.
 pub fn size_in(word: u64) -> u64
     ensures { result ≡ spec.size_in word }
 {
@@ -58,21 +59,21 @@ pub fn from_in(word: u64) -> Register
     }
 }
 
-/// The offset, as it stands there.
+/// The offset, 16 bits, as it stands in the word.
 pub fn offset_in(word: u64) -> u64
     ensures { result ≡ spec.offset_in word }
 {
     (word >> 16) % (1 << 16)
 }
 
-/// The number, as it stands there.
+/// The immediate number, the upper 32 bits, as it stands in the word.
 pub fn immediate_in(word: u64) -> u64
     ensures { result ≡ spec.immediate_in word }
 {
     word >> 32
 }
 
-/// The offset with its sign.
+/// The offset as a signed number, with its sign extended to 64 bits.
 pub fn signed_offset(word: u64) -> u64
     ensures { result ≡ spec.signed_offset word }
 {
@@ -84,7 +85,7 @@ pub fn signed_offset(word: u64) -> u64
     }
 }
 
-/// The number with its sign.
+/// The immediate number as a signed number, with its sign extended to 64 bits.
 pub fn signed_number(word: u64) -> u64
     ensures { result ≡ spec.signed_number word }
 {
@@ -96,7 +97,7 @@ pub fn signed_number(word: u64) -> u64
     }
 }
 
-/// The operand that the source bit says.
+/// The operand of an instruction: the immediate number where the source bit is 0, and the source register where it is 1.
 pub fn operand_in(word: u64) -> Operand
     ensures { result ≡ spec.operand_in word }
 {
@@ -107,7 +108,8 @@ pub fn operand_in(word: u64) -> Operand
     }
 }
 
-/// Whether the field that no operand uses is zero.
+/// Whether the field that the operand does not use is zero: the source register where the operand is the number, and the number where it is the
+/// register.
 pub fn has_one_operand(word: u64) -> bool
     ensures { result ≡ spec.has_one_operand word }
 {
@@ -118,7 +120,7 @@ pub fn has_one_operand(word: u64) -> bool
     }
 }
 
-/// Arithmetic by its code, where there is no offset.
+/// The arithmetic of a code, in a word whose offset is 0. `None` where no operation on two operands has this code.
 pub fn plain(code: u64) -> Option<Arith>
     ensures { result ≡ spec.plain code }
 {
@@ -139,7 +141,7 @@ pub fn plain(code: u64) -> Option<Arith>
     }
 }
 
-/// Arithmetic by its code, where the offset is 1.
+/// The arithmetic of a code, in a word whose offset is 1: signed division and remainder. `None` for every other code.
 pub fn signed(code: u64) -> Option<Arith>
     ensures { result ≡ spec.signed code }
 {
@@ -150,7 +152,7 @@ pub fn signed(code: u64) -> Option<Arith>
     }
 }
 
-/// A move of a register that extends the sign of 8, 16 or 32 bits.
+/// The move of a register that extends the sign of 8, 16 or 32 bits. `None` for any other number of `bits`.
 pub fn extending(bits: u64) -> Option<Arith>
     ensures { result ≡ spec.extending bits }
 {
@@ -162,7 +164,7 @@ pub fn extending(bits: u64) -> Option<Arith>
     }
 }
 
-/// A change of the order of bytes, to little endian.
+/// The change of the byte order to little endian: the lowest 16, 32 or 64 bits stay as they are. `None` for any other number of `bits`.
 pub fn to_little(bits: u64) -> Option<Arith>
     ensures { result ≡ spec.to_little bits }
 {
@@ -174,7 +176,8 @@ pub fn to_little(bits: u64) -> Option<Arith>
     }
 }
 
-/// A change of the order of bytes, to big endian or to the other order.
+/// The change of the byte order to big endian or to the other order: the bytes of the lowest 16, 32 or 64 bits are reversed. `None` for any other
+/// number.
 pub fn to_other(bits: u64) -> Option<Arith>
     ensures { result ≡ spec.to_other bits }
 {
@@ -186,7 +189,7 @@ pub fn to_other(bits: u64) -> Option<Arith>
     }
 }
 
-/// The test of a jump by its code.
+/// The test of a jump by its code. `None` where no test has this code; a jump without a test has the code 0.
 pub fn test_of(code: u64) -> Option<Test>
     ensures { result ≡ spec.test_of code }
 {
@@ -206,7 +209,7 @@ pub fn test_of(code: u64) -> Option<Test>
     }
 }
 
-/// How many bytes, by the code.
+/// How many bytes a load or a store moves, by the code `size`.
 pub fn unit_of(size: u64) -> Unit
     ensures { result ≡ spec.unit_of size }
 {
@@ -218,7 +221,7 @@ pub fn unit_of(size: u64) -> Unit
     }
 }
 
-/// How many bytes a signed load moves, by the code.
+/// How many bytes a load that extends the sign moves, by the code `size`. `None` for eight bytes, which are 64 bits already.
 pub fn signed_unit(size: u64) -> Option<Unit>
     ensures { result ≡ spec.signed_unit size }
 {

@@ -6,7 +6,7 @@ pub struct Register {
     pub number: u8,
 }
 
-/// What an instruction takes beside its register: a number, or a register.
+/// What an instruction takes beside its register: a number, extended to 64 bits, or what a register holds.
 #[derive(Clone, Copy)]
 pub enum Operand {
     Number(u64),
@@ -20,7 +20,7 @@ pub enum Width {
     Half,
 }
 
-/// How many bytes a load or a store moves; a signed load extends the sign.
+/// How many bytes a load or a store moves. A unit with `Signed` in its name is of a load that extends the sign to 64 bits.
 #[derive(Clone, Copy)]
 pub enum Unit {
     One,
@@ -41,11 +41,13 @@ pub enum Arith {
     Div,
     Or,
     And,
+    /// A shift to the left. `ShiftRight` moves in zeros, and `ShiftSigned` copies of the sign.
     ShiftLeft,
     ShiftRight,
     Neg,
     Mod,
     Xor,
+    /// The operand itself is written to the register.
     Mov,
     ShiftSigned,
     SignedDiv,
@@ -71,7 +73,9 @@ pub enum Test {
     Equal,
     Above,
     AtLeast,
+    /// Some bit is 1 in both numbers.
     AnyBit,
+    /// The numbers are not equal. The tests with `Signed` in their names take both as numbers in two's complement.
     Other,
     SignedAbove,
     SignedAtLeast,
@@ -81,9 +85,10 @@ pub enum Test {
     SignedAtMost,
 }
 
-/// One instruction. A jump and a call name the number of the instruction that they go to.
+/// One instruction. `to` is the register that is written, and `target` the number of the instruction that a jump or a call goes to.
 #[derive(Clone, Copy)]
 pub enum Instruction {
+    /// Arithmetic on what the register `to` holds, and on the operand `by`; the result is written to `to`.
     Compute {
         kind: Arith,
         width: Width,
@@ -95,6 +100,7 @@ pub enum Instruction {
         to: Register,
         number: u64,
     },
+    /// A jump to the instruction `target`, where the test holds of the register `left` and the operand `right`.
     Jump {
         test: Test,
         width: Width,
@@ -102,21 +108,25 @@ pub enum Instruction {
         right: Operand,
         target: u64,
     },
+    /// A load of a unit into the register `to`, from the address at `offset` from what the register `base` holds.
     Load {
         unit: Unit,
         to: Register,
         base: Register,
         offset: u64,
     },
+    /// A store of a unit of the operand `value`, to the address at `offset` from what the register `base` holds.
     Store {
         unit: Unit,
         base: Register,
         offset: u64,
         value: Operand,
     },
+    /// A call of the function of the program that begins at the instruction `target`.
     Call {
         target: u64,
     },
+    /// The return from a function, or the end of the run where none is called.
     Exit,
     /// The second word of a number of 64 bits.
     Rest,

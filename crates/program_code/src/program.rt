@@ -70,14 +70,14 @@ fn out_of_memory() -> ProgramFault
     }
 }
 
-/// Whether a program may have this number of words.
+/// Whether the first `count` of the words may be instructions: at least one, at most 65,536, and not more than there are words.
 fn has_length(words: &[u64], count: usize) -> bool
     ensures { result ≡ spec.has_length words.now count }
 {
     count > 0 && count <= MOST && count <= words.len()
 }
 
-/// The instructions of all words.
+/// The instructions of all `words`, one for each word. `Err` is the first fault, or says that memory ran out.
 fn decoded_all(alloc: Global, words: &[u64]) -> Result<Vec<Instruction>, ProgramFault>
     requires { length words.now ≤ 65536 }
     ensures { MatchResult result (λ code. spec.DecodesTo words.now (length words.now) code.items) (λ fault. (fault.kind ≡ FaultKind.Memory) ⊎ spec.IsFirstInstructionFault words.now fault) }
@@ -106,7 +106,7 @@ fn word_at(words: &[u64], at: usize) -> u64
     if at < words.len() { words[at] } else { 0 }
 }
 
-/// The instruction at a place, or why there is none.
+/// The instruction of the word `at`, or why there is none. The second word of a number of 64 bits is `Rest`.
 fn decoded(words: &[u64], at: usize) -> Result<Instruction, FaultKind>
     requires within { at < length words.now }
     requires few { length words.now ≤ 65536 }
@@ -121,7 +121,8 @@ fn decoded(words: &[u64], at: usize) -> Result<Instruction, FaultKind>
     }
 }
 
-/// An instruction, where it keeps the rules.
+/// The instruction of the word `at`, where it keeps the rules: it names registers that it may use, it leads to an instruction where it jumps or
+/// calls, and where it goes on, the word that it goes on to is there. `Err` is the first rule that it breaks.
 fn ruled(words: &[u64], at: usize, instruction: Instruction) -> Result<Instruction, FaultKind>
     requires within { at < length words.now }
     requires few { length words.now ≤ 65536 }
@@ -153,7 +154,7 @@ fn is_writable(register: Register) -> bool
     register.number <= 9
 }
 
-/// Whether an operand may be read.
+/// Whether an operand may be read: it is a number, or a register that may be read.
 fn is_operand(operand: Operand) -> bool
     ensures { result ≡ spec.is_operand operand }
 {
@@ -177,14 +178,14 @@ fn has_registers(instruction: Instruction) -> bool
     }
 }
 
-/// Whether a word is the second one of a number of 64 bits.
+/// Whether the word `at` is the second one of a number of 64 bits: the word before has the opcode 0x18.
 fn is_rest(words: &[u64], at: u64) -> bool
     ensures { result ≡ spec.is_rest words.now at }
 {
     at > 0 && word_at(words, (at - 1) as usize) % (1 << 8) == 0x18
 }
 
-/// Whether an instruction begins at a place.
+/// Whether an instruction begins at the word `at`: there is such a word, and it is not the second one of a number of 64 bits.
 fn is_instruction(words: &[u64], at: u64) -> bool
     ensures { result ≡ spec.is_instruction words.now at }
 {
@@ -203,7 +204,7 @@ fn leads_right(words: &[u64], instruction: Instruction) -> bool
     }
 }
 
-/// The place that an instruction goes on to, where it does not jump.
+/// The number of the word that the instruction of the word `at` goes on to, where it does not jump. `None` where it never goes on.
 fn follower(at: usize, instruction: Instruction) -> Option<usize>
     requires { at < 65536 }
     ensures { result ≡ spec.follower at instruction }

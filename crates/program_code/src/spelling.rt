@@ -37,11 +37,13 @@ pub enum FaultKind {
     Memory,
 }
 
-/// A word and the one after it, as an instruction at a place. `Err` says why they are none.
+/// The instruction that `word` spells as the word `at` of a program. `next` is the word after it, which has the upper half of the number where
+/// `word` begins one of 64 bits. `Err` says why there is none.
 pub fn spelled(word: u64, next: u64, at: u64) -> Result<Instruction, FaultKind>
     ensures { result ≡ spec.spelled word next at }
 {
     match class_in(word) {
+        // by the class: a number of 64 bits, loads, stores of a number and of a register, arithmetic, and else jumps, calls and the exit
         0 => wide(word, next),
         1 => loaded(word),
         2 => stored_number(word),
@@ -51,7 +53,7 @@ pub fn spelled(word: u64, next: u64, at: u64) -> Result<Instruction, FaultKind>
     }
 }
 
-/// An instruction, where the fields that it does not use are zero.
+/// The instruction, where `are_zero` says that the fields that it does not use are zero; else the fault `Unused`.
 fn unused(are_zero: bool, instruction: Instruction) -> Result<Instruction, FaultKind>
     ensures { result ≡ spec.unused are_zero instruction }
 {
@@ -66,6 +68,7 @@ fn unused(are_zero: bool, instruction: Instruction) -> Result<Instruction, Fault
 fn wide(word: u64, next: u64) -> Result<Instruction, FaultKind>
     ensures { result ≡ spec.wide word next }
 {
+    // 0x18 is the opcode of a number of 64 bits; the modes 1 and 2 are accesses to packets
     if word % (1 << 8) != 0x18 {
         let mode = mode_in(word);
         if mode == 1 || mode == 2 {
@@ -73,6 +76,7 @@ fn wide(word: u64, next: u64) -> Result<Instruction, FaultKind>
         }
         return Err(FaultKind::Opcode);
     }
+    // a source register other than 0 marks an address of a map
     if from_in(word).number != 0 {
         return Err(FaultKind::Map);
     }
@@ -85,7 +89,7 @@ fn wide(word: u64, next: u64) -> Result<Instruction, FaultKind>
     Err(FaultKind::Unused)
 }
 
-/// The number of 64 bits whose halves two words have.
+/// The number of 64 bits whose lower half is the immediate number of `word`, and whose upper half is that of `next`.
 fn wide_number(word: u64, next: u64) -> u64
     ensures { result ≡ spec.immediate_in word + 2 ^ 32 * spec.immediate_in next }
 {
@@ -97,6 +101,7 @@ fn loaded(word: u64) -> Result<Instruction, FaultKind>
     ensures { result ≡ spec.loaded word }
 {
     match mode_in(word) {
+        // mode 3 is a plain load, and mode 4 one that extends the sign
         3 => loaded_as(word, unit_of(size_in(word))),
         4 => match signed_unit(size_in(word)) {
             Some(unit) => loaded_as(word, unit),
@@ -106,7 +111,7 @@ fn loaded(word: u64) -> Result<Instruction, FaultKind>
     }
 }
 
-/// The load of a unit that a word spells, or why there is none.
+/// The load of this `unit` that `word` spells, or why there is none: its immediate number is not used, and has to be 0.
 fn loaded_as(word: u64, unit: Unit) -> Result<Instruction, FaultKind>
     ensures { result ≡ spec.loaded_as word (Some unit) }
 {
@@ -149,12 +154,13 @@ fn stored_register(word: u64) -> Result<Instruction, FaultKind>
             };
             unused(immediate_in(word) == 0, store)
         }
+        // mode 6 is an atomic operation, which no program may have
         6 => Err(FaultKind::Atomic),
         _ => Err(FaultKind::Opcode),
     }
 }
 
-/// The width of an instruction of a class: 32 bits, or 64.
+/// How many bits an instruction of a class computes with or tests: 32 in the classes 4 and 6, and else 64.
 fn width_of(class: u64) -> Width
     ensures { result ≡ spec.width_of class }
 {
@@ -170,13 +176,15 @@ fn spelled_arithmetic(word: u64) -> Result<Instruction, FaultKind>
     ensures { result ≡ spec.spelled_arithmetic word }
 {
     match operation_code_in(word) {
+        // the operation code 13 changes the byte order, and 8 negates
         13 => reordered(word),
         8 => spelled_negation(word),
         _ => operated(word),
     }
 }
 
-/// The move that a word spells where its offset is not 0: one that extends a sign.
+/// The move that `word` spells where its offset is 8, 16 or 32: one that extends the sign of that number of bits. `None` where there is no such
+/// move: it takes a register, and class 4, which computes with 32 bits, has none that extends 32 bits.
 fn moved(word: u64) -> Option<Arith>
     ensures { result ≡ spec.moved word }
 {
@@ -187,12 +195,13 @@ fn moved(word: u64) -> Option<Arith>
     extending(offset)
 }
 
-/// The operation on two operands that a word spells.
+/// The operation on two operands that `word` spells, by its operation code and its offset. `None` where there is none.
 fn operation(word: u64) -> Option<Arith>
     ensures { result ≡ spec.operation word }
 {
     let code = operation_code_in(word);
     match offset_in(word) {
+        // offset 1 makes division and remainder signed; with another offset only a move, code 11, is an operation
         0 => plain(code),
         1 => signed(code),
         _ => { if code == 11 { moved(word) } else { None } }
@@ -234,7 +243,8 @@ fn spelled_negation(word: u64) -> Result<Instruction, FaultKind>
     unused(are_zero, compute)
 }
 
-/// The change of the byte order that a word spells.
+/// The change of the byte order that `word` spells, where its immediate number says of how many bits: in class 4 to little or to big endian, by the
+/// source bit, and in class 7 to the other order. `None` where there is none.
 fn order(word: u64) -> Option<Arith>
     ensures { result ≡ spec.order word }
 {
@@ -276,6 +286,7 @@ fn led(word: u64, at: u64) -> Result<Instruction, FaultKind>
     ensures { result ≡ spec.led word at }
 {
     let code = operation_code_in(word);
+    // calls and the exit are of class 5; class 6 has only jumps
     let is_first = class_in(word) == 5;
     if code == 0 {
         return jumps_always(word, at);
@@ -289,7 +300,7 @@ fn led(word: u64, at: u64) -> Result<Instruction, FaultKind>
     jumps(word, at)
 }
 
-/// The instruction that a jump or a call leads to.
+/// The number of the instruction that a jump or a call in the word `at` leads to: `by` words from the one behind it, modulo 2^64.
 fn target(at: u64, by: u64) -> u64
     ensures { result ≡ spec.target at by }
 {
@@ -315,7 +326,7 @@ fn jumps(word: u64, at: u64) -> Result<Instruction, FaultKind>
     }
 }
 
-/// The jump to a target without a test.
+/// The jump to `target` without a test, as an instruction whose test always holds.
 fn jump_always(word: u64, target: u64) -> Instruction
     ensures { result ≡ spec.always word target }
 {
@@ -335,6 +346,7 @@ fn jumps_always(word: u64, at: u64) -> Result<Instruction, FaultKind>
     if source_in(word) != 0 {
         return Err(FaultKind::Opcode);
     }
+    // such a jump uses no register; it goes by the offset in class 5, and by the immediate number in class 6
     let no_registers = to_in(word).number == 0 && from_in(word).number == 0;
     if class_in(word) == 5 {
         let jump = jump_always(word, target(at, signed_offset(word)));
@@ -349,6 +361,7 @@ fn jumps_always(word: u64, at: u64) -> Result<Instruction, FaultKind>
 fn spelled_call(word: u64, at: u64) -> Result<Instruction, FaultKind>
     ensures { result ≡ spec.spelled_call word at }
 {
+    // source register 1 marks a call of a function of the program; every other call is of a helper or by a register
     if source_in(word) == 0 && from_in(word).number == 1 {
         let are_zero = to_in(word).number == 0 && offset_in(word) == 0;
         let target = target(at, signed_number(word));
@@ -361,6 +374,7 @@ fn spelled_call(word: u64, at: u64) -> Result<Instruction, FaultKind>
 fn spelled_exit(word: u64) -> Result<Instruction, FaultKind>
     ensures { result ≡ spec.spelled_exit word }
 {
+    // the opcode of the exit, with every other field 0
     if word == 0x95 {
         Ok(Instruction::Exit)
     } else if source_in(word) == 0 {

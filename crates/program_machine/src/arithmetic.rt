@@ -13,7 +13,8 @@ fn low(a: u64) -> u64
     a % (1 << 32)
 }
 
-/// The result of an instruction of arithmetic.
+/// What an instruction of arithmetic writes to its register, which held `a`; `b` is its operand. With `Half` it computes on the lower 32 bits of
+/// both.
 #[inline(always)]
 pub fn computed(kind: Arith, width: Width, a: u64, b: u64) -> u64
     ensures { result ≡ spec.computed kind width a b }
@@ -24,7 +25,7 @@ pub fn computed(kind: Arith, width: Width, a: u64, b: u64) -> u64
     }
 }
 
-/// What an operation gives on 64 bits.
+/// What an operation gives on 64 bits: `a` is what its register held, and `b` is its operand.
 #[inline(always)]
 fn computed_whole(kind: Arith, a: u64, b: u64) -> u64
     ensures { result ≡ spec.computed_whole kind a b }
@@ -38,6 +39,7 @@ fn computed_whole(kind: Arith, a: u64, b: u64) -> u64
         Arith::And => a & b,
         Arith::ShiftLeft => a << (b % 64),
         Arith::ShiftRight => a >> (b % 64),
+        // a negation has no operand
         Arith::Neg => negated(a),
         Arith::Mod => remainder(a, b),
         Arith::Xor => a ^ b,
@@ -45,9 +47,11 @@ fn computed_whole(kind: Arith, a: u64, b: u64) -> u64
         Arith::ShiftSigned => shifted_signed(a, b % 64),
         Arith::SignedDiv => signed_quotient(a, b),
         Arith::SignedMod => signed_remainder(a, b),
+        // a signed number of the operand's lowest 8, 16 or 32 bits, with its sign extended
         Arith::Signed8 => signed_8(b % (1 << 8)),
         Arith::Signed16 => signed_16(b % (1 << 16)),
         Arith::Signed32 => signed_32(b % (1 << 32)),
+        // the register's lowest 16, 32 or 64 bits, and then the same with their bytes in the other order
         Arith::Low16 => a % (1 << 16),
         Arith::Low32 => a % (1 << 32),
         Arith::Low64 => a,
@@ -57,7 +61,8 @@ fn computed_whole(kind: Arith, a: u64, b: u64) -> u64
     }
 }
 
-/// What an operation gives on 32 bits, where it differs from that on 64 bits.
+/// What an operation gives on 32 bits: `a` is what its register held, and `b` is its operand. An operation that is not named here gives the lower 32
+/// bits of its result on 64 bits.
 #[inline(always)]
 fn computed_half(kind: Arith, a: u64, b: u64) -> u64
     requires left { a < 2 ^ 32 }
@@ -103,7 +108,7 @@ fn is_negative(a: u64) -> bool
     a >= 1 << 63
 }
 
-/// The absolute value of a number in two's complement.
+/// The absolute value of a number in two's complement, as an unsigned number.
 fn size_of(a: u64) -> u64
     ensures { result ≡ spec.size_of a }
 {
@@ -141,7 +146,7 @@ fn signed_remainder(a: u64, b: u64) -> u64
     if is_negative(a) { negated(size) } else { size }
 }
 
-/// A number shifted to the right, its sign kept.
+/// The signed number `a` shifted right by `by` bits, with copies of its sign moved in.
 #[inline(always)]
 fn shifted_signed(a: u64, by: u64) -> u64
     requires { by < 64 }
@@ -212,7 +217,7 @@ fn swapped_64(a: u64) -> u64
     swapped_32(a) * (1 << 32) + swapped_32(a >> 32)
 }
 
-/// Whether a test holds.
+/// Whether a test holds of `a`, its left number, and `b`. With `Half` it is of their lower 32 bits, which are moved up so that their signs count.
 #[inline(always)]
 pub fn test_holds(test: Test, width: Width, a: u64, b: u64) -> bool
     ensures { result ≡ spec.test_holds test width a b }
@@ -223,7 +228,7 @@ pub fn test_holds(test: Test, width: Width, a: u64, b: u64) -> bool
     }
 }
 
-/// Whether a test holds of two numbers of 64 bits.
+/// Whether a test holds of `a`, its left number, and `b`. Those with `Signed` in their names take both as numbers in two's complement.
 #[inline(always)]
 fn test_holds_whole(test: Test, a: u64, b: u64) -> bool
     ensures { result ≡ spec.test_holds_whole test a b }

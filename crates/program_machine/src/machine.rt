@@ -28,7 +28,8 @@ pub enum RunFault {
     Place,
 }
 
-/// How a run ends: with a value, or with a fault of the instruction at a place.
+/// How a run ends: with a value, which the program returned in register 0, or with a fault. `at` is the number of the instruction that it was at, and
+/// `address` is the address that it was to load from or store to, or 0 where the fault is of none.
 #[derive(Clone, Copy, Debug, PartialEq, Eq)]
 pub enum RunEnd {
     Returned(u64),
@@ -39,17 +40,23 @@ pub enum RunEnd {
     },
 }
 
-/// What an instruction needs: nothing more, the end, or a word of the object.
+/// What an instruction still needs after the machine did its part of it: nothing, as it is done and the run goes on; the run's end; or a load or a
+/// store of a word of the object, which the machine does not have. `place` is the number of that word, `unit` is how many of its bytes are moved,
+/// from `address` on, `to` is the register that is loaded, and `value` is what is stored.
 #[derive(Clone, Copy)]
 pub enum Wish {
+    /// The instruction needs no word of the object: it is done, and the run goes on.
     Goes,
+    /// The run ends here, by a return or by a fault.
     Ends(RunEnd),
+    /// The word at `place` of the object is to be loaded, and its part written to the register `to`.
     Loads {
         place: u64,
         unit: Unit,
         address: u64,
         to: Register,
     },
+    /// A part of the word at `place` of the object is to be replaced by `value`.
     Stores {
         place: u64,
         unit: Unit,
@@ -58,7 +65,7 @@ pub enum Wish {
     },
 }
 
-/// Where an address is.
+/// Where an address is: in the object, the request, the reply, the stack or the program's words, with the number of the word there; or nowhere.
 #[derive(Clone, Copy)]
 pub enum AddressPlace {
     Object(u64),
@@ -69,7 +76,9 @@ pub enum AddressPlace {
     Nowhere,
 }
 
-/// Registers, the place of the next instruction, calls, the stack, and the reply.
+/// What a run has beside the object. `registers` are the registers, of which a decoded program names 0 to 10. `at` is the number of the next
+/// instruction, and `depth` is how many calls are under way. `frames` keeps six words for each of them, `stack` has 512 words, and `reply` is the
+/// reply so far.
 #[derive(Drop)]
 pub struct Machine {
     pub registers: [u64; 16],
@@ -80,17 +89,22 @@ pub struct Machine {
     pub reply: [u64; 144],
 }
 
-/// Where an address is, for an object of `words` words and a program of `constants` words.
+/// Where an address is, for an object of `words` words and a program of `constants` words. The upper 32 bits of the address say which of five parts
+/// it is in, and the lower 32 bits are a number of bytes from the start of that part. The first eight words of the object and of the reply are in no
+/// part.
 #[inline(always)]
 pub fn place_of_address(address: u64, words: u64, constants: u64) -> AddressPlace
     ensures { result ≡ spec.place_of_address address words constants }
 {
     let index = address % (1 << 32) / 8;
     match address >> 32 {
+        // part 1 is the object without its first line of eight words, which the library keeps
         1 if index + 8 < words => AddressPlace::Object(index + 8),
+        // parts 2 and 3 are the request, of 144 words, and the reply without its first eight words
         2 if index < 144 => AddressPlace::Request(index),
         3 if index < 136 => AddressPlace::Reply(index + 8),
         4 if index < 512 => AddressPlace::Stack(index),
+        // part 5 has the program's words, of which those after its instructions are constants
         5 if index < constants => AddressPlace::Constant(index),
         _ => AddressPlace::Nowhere,
     }
@@ -109,7 +123,7 @@ fn is_aligned(unit: Unit, address: u64) -> bool
     }
 }
 
-/// The bits that a unit has.
+/// The bits that a unit has, as ones: those of 1, 2, 4 or 8 bytes.
 #[inline(always)]
 fn mask_of(unit: Unit) -> u64
     ensures { result ≡ spec.mask_of unit }
@@ -122,7 +136,8 @@ fn mask_of(unit: Unit) -> u64
     }
 }
 
-/// A part of a word.
+/// The part of `word` that a load of `unit` from `address` gives: 1, 2, 4 or 8 bytes, from the byte of the word that `address` names. A signed unit
+/// is extended to 64 bits by its sign.
 #[inline(always)]
 pub fn part(unit: Unit, address: u64, word: u64) -> u64
     ensures { result ≡ spec.part unit address word }
@@ -139,7 +154,7 @@ pub fn part(unit: Unit, address: u64, word: u64) -> u64
     }
 }
 
-/// A word with another part.
+/// `word` with the bytes that a store of `unit` at `address` replaces taken from the lowest bytes of `value`.
 #[inline(always)]
 pub fn with_part(unit: Unit, address: u64, word: u64, value: u64) -> u64
     ensures { result ≡ spec.with_part unit address word value }
@@ -157,7 +172,7 @@ impl Machine {
         self.registers[(register.number % 16) as usize]
     }
 
-    /// The value of an operand.
+    /// The value of an operand: the number itself, or what the register holds.
     #[inline(always)]
     fn value(&self, operand: Operand) -> u64
         ensures { result ≡ spec.value_of self.now operand }
@@ -168,7 +183,7 @@ impl Machine {
         }
     }
 
-    /// The address at an offset from what a register holds.
+    /// The address at `offset` from what the register `base` holds, modulo 2^64.
     #[inline(always)]
     fn sum(&self, base: Register, offset: u64) -> u64
         ensures { result ≡ spec.address_of self.now base offset }
@@ -176,7 +191,7 @@ impl Machine {
         self.read(base).wrapping_add(offset)
     }
 
-    /// Writes a register, and goes on.
+    /// Writes `value` to a register, and goes on to the next instruction.
     #[inline(always)]
     pub fn write(&mut self, register: Register, value: u64)
         ensures { self.new ≡ spec.wrote self.old register value }
@@ -185,7 +200,7 @@ impl Machine {
         self.at = self.at.wrapping_add(1);
     }
 
-    /// The end of the run by a fault at the instruction.
+    /// The end of the run by a fault of this kind at the machine's instruction, with the address that it was to access.
     #[inline(always)]
     fn fault(&self, kind: RunFault, address: u64) -> Wish
         ensures { result ≡ spec.fault self.now kind address }
@@ -197,7 +212,8 @@ impl Machine {
         })
     }
 
-    /// Loads a unit into a register, or wishes for the word of the object that has it.
+    /// Loads a unit from `address` into the register `to`, and answers `Goes`. Where the address is in the object, it loads nothing and answers
+    /// which word is needed; where it is not a multiple of the unit or is nowhere, it answers the fault. `words` is how many words the object has.
     #[inline(always)]
     fn load(
         &mut self,
@@ -232,7 +248,9 @@ impl Machine {
         Wish::Goes
     }
 
-    /// Stores a unit of a value, or wishes for its store in the object.
+    /// Stores a unit of `value` at `address`, in the reply or the stack, and answers `Goes`. Where the address is in the object, it stores nothing
+    /// and answers what is to be stored; where it is not a multiple of the unit, or is in no place that may be stored to, it answers the fault.
+    /// `words` is how many words the object has.
     #[inline(always)]
     fn store(&mut self, unit: Unit, address: u64, value: u64, words: u64) -> Wish
         ensures { (result, self.new) ≡ spec.stores self.old unit address value words }
@@ -265,13 +283,15 @@ impl Machine {
         }
     }
 
-    /// Calls a function of the program: keeps the registers that the callee may not change, and gives it a stack frame.
+    /// Calls the function of the program at instruction `target`: keeps registers 6 to 10 and the place after the call in a frame of six words, and
+    /// moves register 10, the end of the stack, 512 bytes down. It answers `Goes`, or a fault where seven calls are under way.
     fn call(&mut self, target: u64) -> Wish
         ensures { (result, self.new) ≡ spec.calls self.old target }
     {
         if self.depth >= 7 {
             return self.fault(RunFault::Depth, 0);
         }
+        // the frame begins at this word of the frames
         let base = 6 * self.depth as usize;
         self.frames[base] = self.registers[6];
         self.frames[base + 1] = self.registers[7];
@@ -279,13 +299,15 @@ impl Machine {
         self.frames[base + 3] = self.registers[9];
         self.frames[base + 4] = self.registers[10];
         self.frames[base + 5] = self.at.wrapping_add(1);
+        // the function has the next 512 bytes of the stack, and the run goes on at its first instruction
         self.registers[10] = self.registers[10].wrapping_sub(512);
         self.depth += 1;
         self.at = target;
         Wish::Goes
     }
 
-    /// Returns to the caller with its registers, or ends the run.
+    /// Returns to the caller: registers 6 to 10 and the place after the call come back from its frame, and it answers `Goes`. Where no call is under
+    /// way, it answers the end of the run, with the value in register 0.
     fn exit(&mut self) -> Wish
         ensures { (result, self.new) ≡ spec.exits self.old }
     {
@@ -303,7 +325,8 @@ impl Machine {
         Wish::Goes
     }
 
-    /// Does an instruction, but for a load or a store of a word of the object, which is what it wishes then.
+    /// Does an instruction as far as it needs no word of the object, and answers what it still needs: `Goes` where it is done and the run goes on,
+    /// `Ends` where the run ends, and else the word of the object that it loads or stores. `words` is how many words the object has.
     #[inline(always)]
     pub fn wish(
         &mut self,
@@ -325,6 +348,7 @@ impl Machine {
                 self.write(to, value);
                 Wish::Goes
             }
+            // a number of 64 bits takes two words of the program, and the second is passed over
             Instruction::Wide { to, number } => {
                 self.write(to, number);
                 self.at = self.at.wrapping_add(1);
@@ -337,6 +361,7 @@ impl Machine {
                 right,
                 target,
             } => {
+                // where the test holds the run goes on at the target, and else at the next instruction
                 if test_holds(test, width, self.read(left), self.value(right)) {
                     self.at = target;
                     return Wish::Goes;
@@ -365,6 +390,7 @@ impl Machine {
             }
             Instruction::Call { target } => self.call(target),
             Instruction::Exit => self.exit(),
+            // the second word of a number of 64 bits is no instruction
             Instruction::Rest => self.fault(RunFault::Place, 0),
         }
     }

@@ -12,7 +12,7 @@ use Rattle.program_machine.specs.declared.machine.Wish.{Wish}
 use Rattle.program_machine.specs.declared.machine.Wish.TheVariants.{Stores}
 use Rattle.program_object.specs.Run.{undone, put, Undo, RunState, Granted, end_by_fault, is_outside, store_noted, state}
 
--- what stands behind the first places and words changes nothing
+-- undoing `n` stores is the same by lists that agree in their first `n` places and words
 undone_same : (size n : ℕ) (p q v w now : List ℕ) → ((i : ℕ) → i < n → slice_index p i ≡ slice_index q i) → ((i : ℕ) → i < n → slice_index v i ≡ slice_index w i) →
     undone size n p v now ≡ undone size n q w now
 undone_same size zero p q v w now hp hv = refl
@@ -42,13 +42,15 @@ undone_more size n at v old p w before lp lw within is =
     (λ i l. get_or-set_other p n i at 0 (λ e. omega (arith, l, e)))
     (λ i l. get_or-set_other w n i old 0 (λ e. omega (arith, l, e)))
 
+-- a choice by a test that does not hold is the second of the two
 chosen : {A : Type 0} (b : Bool) (x y : A) → b ≡ false → cond b x y ≡ y
 chosen b x y e = ap (λ b. cond b x y) e
 
+-- what a run has after a store at `place`, where the word `w` was there
 abbrev stored : Machine → Undo → ℕ → Unit → ℕ → ℕ → List ℕ → ℕ → Option RunEnd × RunState
 stored m undo place u address value before w = (None, record { machine = record m { at = following_place m.at }; stores = undo.count + 1; image = slice_set before place (with_part u address w value) })
 
--- a store that was granted
+-- a store by a run that may store, within the object and with room in the undo, is granted: the word has another part, and its old value is noted
 pub granted_store : (writes : Bool) (words place : ℕ) (u : Unit) (address value word : ℕ) (m : Machine) (undo : Undo) (before : List ℕ) →
     8 ≤ place → place < words → writes ≡ true → undo.count < 256 → length undo.places ≡ 256 → length undo.words ≡ 256 → slice_index before place ≡ word →
     Granted writes words (Stores place u address value) m undo before None (record m { at = following_place m.at }) (store_noted undo place word) (slice_set before place (with_part u address word value))

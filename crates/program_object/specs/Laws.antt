@@ -28,6 +28,7 @@ by_test : {A : Type 0} (P : A → Type 0) (b : Bool) (x y : A) → (b ≡ true �
 by_test P true x y p q = p refl
 by_test P false x y p q = q refl
 
+-- a fact of a choice, where it holds of both answers
 by_case : {A : Type 0} (P : A → Type 0) (b : Bool) (x y : A) → P x → P y → P (cond b x y)
 by_case P true x y p q = p
 by_case P false x y p q = q
@@ -43,6 +44,7 @@ with_part_small u address word value small =
 abbrev Fine : wish_type.Wish × Machine → Type 0
 Fine w = Words 144 w.1.reply
 
+-- a load leaves a reply of 144 words where it was one
 loads_from_fine : (m : Machine) (u : unit_type.Unit) (to : Register) (address : ℕ) (request constants : List ℕ) (p : place_type.AddressPlace) → Words 144 m.reply → Fine (loads_from_place m u to address request constants p)
 loads_from_fine m u to address request constants (place.Object at) w = w
 loads_from_fine m u to address request constants (place.Request at) w = w
@@ -51,6 +53,7 @@ loads_from_fine m u to address request constants (place.Stack at) w = w
 loads_from_fine m u to address request constants (place.Constant at) w = w
 loads_from_fine m u to address request constants place.Nowhere w = w
 
+-- a store leaves a reply of 144 words where it was one
 stores_to_fine : (m : Machine) (u : unit_type.Unit) (address value : ℕ) (p : place_type.AddressPlace) → Words 144 m.reply → Fine (stores_to_place m u address value p)
 stores_to_fine m u address value (place.Object at) w = w
 stores_to_fine m u address value (place.Request at) w = w
@@ -60,6 +63,7 @@ stores_to_fine m u address value (place.Stack at) w = w
 stores_to_fine m u address value (place.Constant at) w = w
 stores_to_fine m u address value place.Nowhere w = w
 
+-- each instruction leaves a reply of 144 words where it was one
 wish_fine : (m : Machine) (i : instruction_type.Instruction) (request constants : List ℕ) (words : ℕ) → Words 144 m.reply → Fine (wish m i request constants words)
 wish_fine m (Compute kind width to by) request constants words w = w
 wish_fine m (Wide to number) request constants words w = w
@@ -76,14 +80,16 @@ wish_fine m (Call target) request constants words w = by_case Fine (nat_le 7 m.d
 wish_fine m Exit request constants words w = by_case Fine (m.depth == 0 || nat_lt 7 m.depth) _ _ w w
 wish_fine m Rest request constants words w = w
 
--- A state is good: its words are an image, and its reply is one.
+-- A state of a run is lawful: its words are an image of the program, and its reply has 144 words.
 pub record IsLawfulRunState (lines version : ℕ) (s : RunState) : Type 0 where
   pub image : IsProgramImage lines version s.image
   pub reply : Words 144 s.machine.reply
 
+-- a place that a program may access is not word 0 of the object
 outside_zero : (at words : ℕ) → is_outside at words ≡ false → at ≢ 0
 outside_zero at words e z = let f : is_outside 0 words ≡ false = subst (λ k. is_outside k words ≡ false) z e in cc
 
+-- granting a wish leaves a lawful state of a run lawful
 granted_good : (lines version : ℕ) (writes : Bool) (words : ℕ) (w : wish_type.Wish) (s : RunState) → IsLawfulRunState lines version s → IsLawfulRunState lines version (granted writes words w s).1
 granted_good lines version writes words Goes s g = g
 granted_good lines version writes words (Ends end) s g = g
@@ -101,6 +107,7 @@ granted_good lines version writes words (Stores at u address value) s g =
       reply = g.reply;
     })) g)
 
+-- an instruction leaves a lawful state of a run lawful
 fetched_good : (lines version : ℕ) (p : Setting) (s : RunState) (i : Option instruction_type.Instruction) → IsLawfulRunState lines version s → IsLawfulRunState lines version (fetched p s i).1
 fetched_good lines version p s None g = g
 fetched_good lines version p s (Some i) g =
@@ -108,10 +115,12 @@ fetched_good lines version p s (Some i) g =
     granted_good lines version p.writes p.words w.0 (record { machine = w.1; stores = s.stores; image = s.image })
     (record { image = g.image; reply = wish_fine s.machine i p.request p.constants p.words g.reply })
 
+-- after a step that left a lawful state, the rest of the run leaves one, if it leaves one of each lawful state
 on_good : (lines version n : ℕ) (p : Setting) (r : Option RunEnd × RunState) → IsLawfulRunState lines version r.1 → ((s : RunState) → IsLawfulRunState lines version s → IsLawfulRunState lines version (run n p s).1) → IsLawfulRunState lines version (go_on (run n p) r).1
 on_good lines version n p (None, s) g on = on s g
 on_good lines version n p (Some end, s) g on = g
 
+-- a run of at most `n` instructions leaves a lawful state of a run lawful
 pub run_good : (lines version n : ℕ) (p : Setting) (s : RunState) → IsLawfulRunState lines version s → IsLawfulRunState lines version (run n p s).1
 run_good lines version zero p s g = g
 run_good lines version (suc n) p s g =
@@ -124,6 +133,7 @@ granted_still words (Ends end) s = refl
 granted_still words (Loads at u address to) s = by_case (λ (x : Option RunEnd × RunState). x.1.image ≡ s.image) (is_outside at words) _ _ refl refl
 granted_still words (Stores at u address value) s = by_case (λ (x : Option RunEnd × RunState). x.1.image ≡ s.image) (is_outside at words) _ _ refl refl
 
+-- an instruction leaves the image where stores are not allowed
 fetched_still : (p : Setting) (s : RunState) (i : Option instruction_type.Instruction) → p.writes ≡ false → (fetched p s i).1.image ≡ s.image
 fetched_still p s None off = refl
 fetched_still p s (Some i) off =
@@ -131,25 +141,30 @@ fetched_still p s (Some i) off =
     ap (λ (b : Bool). (granted b p.words w.0 (record { machine = w.1; stores = s.stores; image = s.image })).1.image) off
     ∙ granted_still p.words w.0 (record { machine = w.1; stores = s.stores; image = s.image })
 
+-- after a step that left the image, the rest of the run leaves it, if it leaves the image of each state
 on_still : (n : ℕ) (p : Setting) (r : Option RunEnd × RunState) (image : List ℕ) → r.1.image ≡ image → ((s : RunState) → (run n p s).1.image ≡ s.image) → (go_on (run n p) r).1.image ≡ image
 on_still n p (None, s) image e on = on s ∙ e
 on_still n p (Some end, s) image e on = e
 
+-- a run of at most `n` instructions leaves the image where stores are not allowed
 pub run_still : (n : ℕ) (p : Setting) (s : RunState) → p.writes ≡ false → (run n p s).1.image ≡ s.image
 run_still zero p s off = refl
 run_still (suc n) p s off = on_still n p (step p s) s.image (fetched_still p s (slice_get p.code s.machine.at) off) (λ t. run_still n p t off)
 
--- THE LAWS
+-- THE LAWS. A list of `n` zeros is `n` words.
 zeros : (n : ℕ) → Words n (replicate n 0)
 zeros n = record { long = length-replicate {A = ℕ} n 0; fit = All-replicate (λ x. x < 2 ^ 64) n 0 (lit< tt) }
 
+-- what a run has as it begins over an image
 abbrev started : ℕ → List ℕ → RunState
 started lines image = record { machine = start lines 0; stores = 0; image = image }
 
+-- a run begins in a lawful state over an image of the program
 started_good : (lines version : ℕ) (image : List ℕ) → IsProgramImage lines version image → IsLawfulRunState lines version (started lines image)
 unfolding start
 started_good lines version image i = record { image = i; reply = zeros 144 }
 
+-- the first image is an image of the program
 pub program_opens : (lines version : ℕ) → 1 ≤ lines → version < 2 ^ 64 → IsProgramImage lines version (opening lines version)
 program_opens lines version some small = record {
   words = record {
@@ -159,6 +174,7 @@ program_opens lines version some small = record {
   version_is = refl;
 }
 
+-- the number of a fault fits into a word
 fault_small : (kind : fault_type.RunFault) → fault_number kind < 2 ^ 64
 fault_small fault_kind.Address = lit< tt
 fault_small fault_kind.Alignment = lit< tt
@@ -168,6 +184,7 @@ fault_small fault_kind.Fuel = lit< tt
 fault_small fault_kind.Depth = lit< tt
 fault_small fault_kind.Place = lit< tt
 
+-- the reply of a run that a fault ended has 144 words
 faulted_words : (n at address : ℕ) → n < 2 ^ 64 → Words 144 (faulted n at address)
 unfolding faulted
 faulted_words n at address small =
@@ -177,58 +194,70 @@ faulted_words n at address small =
       fit = All-cons (λ x. x < 2 ^ 64) n (at % 2 ^ 64 ∷ address % 2 ^ 64 ∷ z) small (All-cons (λ x. x < 2 ^ 64) (at % 2 ^ 64) (address % 2 ^ 64 ∷ z) (omega arith) (All-cons (λ x. x < 2 ^ 64) (address % 2 ^ 64) z (omega arith) (All-replicate (λ x. x < 2 ^ 64) 141 0 (lit< tt))));
     }
 
+-- what an operation leaves is an image of the program, where the image before is one and its run ended in a lawful state
 ended_keeps : (lines version : ℕ) (image : List ℕ) (r : RunEnd × RunState) → IsProgramImage lines version image → IsLawfulRunState lines version r.1 → IsProgramImage lines version (run_outcome image r).0
 ended_keeps lines version image (Returned value, s) i g = g.image
 ended_keeps lines version image (Fault kind at address, s) i g = i
 
+-- the reply has 144 words, where the run ended in a lawful state
 ended_replies : (lines version : ℕ) (image : List ℕ) (r : RunEnd × RunState) → IsLawfulRunState lines version r.1 → Words 144 (run_outcome image r).1
 ended_replies lines version image (Returned value, s) g = Words-set 144 _ 1 (value % 2 ^ 64) (omega arith) (Words-set 144 s.machine.reply 0 1 (lit< tt) g.reply)
 ended_replies lines version image (Fault kind at address, s) g = faulted_words (fault_number kind) at address (fault_small kind)
 
+-- an operation leaves the image, where its run left it
 ended_still : (image : List ℕ) (r : RunEnd × RunState) → r.1.image ≡ image → (run_outcome image r).0 ≡ image
 ended_still image (Returned value, s) e = e
 ended_still image (Fault kind at address, s) e = refl
 
 module _ (code : List instruction_type.Instruction) (constants : List ℕ) (lines version fuel : ℕ) where
+  -- the run of an operation over an image
   abbrev the_run : List ℕ → List ℕ → RunEnd × RunState
   the_run image op = run fuel (setting code constants (8 * lines) op (not (reads op))) (started lines image)
 
+  -- the run of an operation over an image of the program ends in a lawful state
   the_run_good : (image op : List ℕ) → IsProgramImage lines version image → IsLawfulRunState lines version (the_run image op).1
   the_run_good image op i = run_good lines version fuel (setting code constants (8 * lines) op (not (reads op))) (started lines image) (started_good lines version image i)
 
-  -- whatever the words of the operation are
+  -- a step leaves an image of the program, whatever the words of the operation are
   step_keeps : (image op : List ℕ) → IsProgramImage lines version image → IsProgramImage lines version (program_step code constants lines fuel image op).0
   step_keeps image op i = ended_keeps lines version image (the_run image op) i (the_run_good image op i)
 
+  -- a step leaves an image of the program
   pub program_keeps : (image op : List ℕ) → IsProgramImage lines version image → Words 144 op → IsProgramImage lines version (program_step code constants lines fuel image op).0
   program_keeps image op i w = step_keeps image op i
 
+  -- a step replies by 144 words
   pub program_replies : (image op : List ℕ) → IsProgramImage lines version image → Words 144 op → Words 144 (program_step code constants lines fuel image op).1
   program_replies image op i w = ended_replies lines version image (the_run image op) (the_run_good image op i)
 
+  -- a step of an operation that only reads leaves the image
   pub program_leaves : (image op : List ℕ) → IsProgramImage lines version image → Words 144 op → IsTrue (reads op) → (program_step code constants lines fuel image op).0 ≡ image
   program_leaves image op i w says = ended_still image (the_run image op) (run_still fuel (setting code constants (8 * lines) op (not (reads op))) (started lines image) (ap not says))
 
+-- an image has eight words for each line, and its first word is the fingerprint
 pub program_shape : (lines version : ℕ) (image : List ℕ) → IsProgramImage lines version image → Words (8 * lines) image × (slice_index image 0 ≡ version)
 program_shape lines version image i = (i.words, i.version_is)
 
--- THE FORMAT BEFORE
+-- THE FORMAT BEFORE. No fingerprint is another than itself.
 not_other : (version : ℕ) → is_other (Some version) version ≡ true → ⊥
 not_other version h = let e : (version == version) ≡ true = eq-eqb version version refl in let f : not true ≡ true = subst (λ b. not b ≡ true) e h in cc
 
+-- a fingerprint before that is another than `version` is not `version`
 same_some : (old version : ℕ) → Some old ≡ Some version → is_other (Some old) version ≡ true → ⊥
 same_some old version e h = let s : old ≡ version = cc in not_other version (subst (λ k. is_other (Some k) version ≡ true) s h)
 
+-- an image of at least one line has a first word
 some_words : (lines version : ℕ) (image : List ℕ) → 1 ≤ lines → IsProgramImage lines version image → 0 < length image
 some_words lines version image some i = let e : length image ≡ 8 * lines = i.words.long in omega (arith, e, some)
 
--- an image whose first word is replaced
+-- an image whose first word is replaced by another fingerprint is an image of the program with that one
 pub named : (lines old version : ℕ) (image : List ℕ) → 1 ≤ lines → version < 2 ^ 64 → IsProgramImage lines old image → IsProgramImage lines version (slice_set image 0 version)
 named lines old version image some small i = record {
   words = Words-set (8 * lines) image 0 version small i.words;
   version_is = get_or-set_same image 0 version 0 (some_words lines old image some i);
 }
 
+-- what an upgrade makes of an image of the program before is an image of this one; without a program before nothing is taken over
 pub program_takes_over : (code : List instruction_type.Instruction) (constants : List ℕ) (lines version fuel : ℕ) (before : Option ℕ) → 1 ≤ lines → version < 2 ^ 64 → is_other before version ≡ true →
     TakesOver lines version (IsProgramImage lines version) (old_of code constants lines fuel version before)
 program_takes_over code constants lines version fuel None some small other = takes_over_nothing lines version (IsProgramImage lines version)

@@ -15,6 +15,7 @@ pub record IsProgramImage (lines version : ℕ) (image : List ℕ) : Type 0 wher
   pub words : Words (8 * lines) image
   pub version_is : slice_index image 0 ≡ version
 
+-- the first image: the fingerprint, and zeros
 abbrev pub opening : ℕ → ℕ → List ℕ
 opening lines version = version ∷ replicate (8 * lines - 1) 0
 
@@ -33,6 +34,7 @@ start lines zeros = record {
   reply = replicate 144 zeros;
 }
 
+-- the number of a fault in the first word of a reply; 1 there is a run that returned
 abbrev pub fault_number : fault_type.RunFault → ℕ
 fault_number fault_kind.Address = 2
 fault_number fault_kind.Alignment = 3
@@ -42,10 +44,11 @@ fault_number fault_kind.Fuel = 6
 fault_number fault_kind.Depth = 7
 fault_number fault_kind.Place = 8
 
--- the reply of a run that returned a value, and of one that a fault ended
+-- the reply of a run that returned a value: 1, the value, and the other words as the run left them
 abbrev pub returned : ℕ → List ℕ → List ℕ
 returned value reply = slice_set (slice_set reply 0 1) 1 (value % 2 ^ 64)
 
+-- the reply of a run that a fault ended: its number, the number of the instruction, the address, and zeros
 unfoldable pub faulted : ℕ → ℕ → ℕ → List ℕ
 faulted number at address = number ∷ at % 2 ^ 64 ∷ address % 2 ^ 64 ∷ replicate 141 0
 
@@ -59,7 +62,7 @@ abbrev pub run_over : List instruction_type.Instruction → List ℕ → ℕ →
 run_over code constants lines fuel writes image op =
     run_outcome image (run fuel (setting code constants (8 * lines) op writes) (record { machine = start lines 0; stores = 0; image = image }))
 
--- ONE STEP of the object
+-- ONE STEP of the object: the image after an operation, and the reply
 abbrev pub program_step : List instruction_type.Instruction → List ℕ → ℕ → ℕ → List ℕ → List ℕ → List ℕ × List ℕ
 program_step code constants lines fuel image op = run_over code constants lines fuel (not (reads op)) image op
 
@@ -68,7 +71,7 @@ pub record Operates (code : List instruction_type.Instruction) (constants : List
   pub does : run_over code constants lines fuel writes before op ≡ (now, reply)
   pub still : IsFalse writes → now ≡ before
 
--- THE FORMAT BEFORE: that of the program with another fingerprint.
+-- THE FORMAT BEFORE: that of the program with another fingerprint. Whether the fingerprint before, if there is one, is not `version`.
 abbrev pub is_other : Option ℕ → ℕ → Bool
 is_other None version = true
 is_other (Some old) version = not (old == version)
@@ -81,6 +84,7 @@ upgrade_request old = (2 ^ 64 - 2) ∷ old ∷ replicate 142 0
 abbrev pub upgraded_words : List instruction_type.Instruction → List ℕ → ℕ → ℕ → ℕ → ℕ → List ℕ → List ℕ
 upgraded_words code constants lines fuel version old image = (program_step code constants lines fuel (slice_set image 0 version) (upgrade_request old)).0
 
+-- the old format of a program's object: none, or the images of the program with the fingerprint `old`, and what an upgrade makes of them
 abbrev pub old_of : List instruction_type.Instruction → List ℕ → ℕ → ℕ → ℕ → Option ℕ → OldFormat
 old_of code constants lines fuel version None = no_old_format
 old_of code constants lines fuel version (Some old) =

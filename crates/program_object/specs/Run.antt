@@ -12,9 +12,11 @@ use Rattle.program_machine.specs.declared.machine.Wish as wish_type
 use Rattle.program_machine.specs.declared.machine.Wish.TheVariants.{Goes, Ends, Loads, Stores}
 use Rattle.program_object.specs.declared.undo.Undo as undo_type
 
+-- the stores of a run so far: how many, the place of each, and the word that it replaced
 abbrev pub Undo : Type 0
 Undo = undo_type.Undo
 
+-- the end of a run by a fault of this kind at the machine's instruction, with the address that it was to access
 abbrev pub end_by_fault : Machine → fault_type.RunFault → ℕ → Option RunEnd
 end_by_fault m kind address = Some (Fault kind m.at address)
 
@@ -80,12 +82,15 @@ pub record Setting : Type 0 where
   pub request : List ℕ
   pub writes : Bool
 
+-- the setting of a run, by its parts
 abbrev pub setting : List instruction_type.Instruction → List ℕ → ℕ → List ℕ → Bool → Setting
 setting code constants words request writes = record { code = code; constants = constants; words = words; request = request; writes = writes }
 
+-- after the machine did its part of an instruction, which left this wish: whether the run ends, and what it then has
 abbrev pub wished : Setting → RunState → wish_type.Wish × Machine → Option RunEnd × RunState
 wished p s w = granted p.writes p.words w.0 (record { machine = w.1; stores = s.stores; image = s.image })
 
+-- after an instruction was looked up: a fault where there is none, and else what it does
 abbrev pub fetched : Setting → RunState → Option instruction_type.Instruction → Option RunEnd × RunState
 fetched p s None = (end_by_fault s.machine fault_kind.Place 0, s)
 fetched p s (Some i) = wished p s (wish s.machine i p.request p.constants p.words)
@@ -94,6 +99,7 @@ fetched p s (Some i) = wished p s (wish s.machine i p.request p.constants p.word
 abbrev pub step : Setting → RunState → Option RunEnd × RunState
 step p s = fetched p s (slice_get p.code s.machine.at)
 
+-- after one step: its end where it ended the run, and else what the rest of the run gives
 abbrev pub go_on : (RunState → RunEnd × RunState) → Option RunEnd × RunState → RunEnd × RunState
 go_on rest (None, s) = rest s
 go_on rest (Some end, s) = (end, s)
@@ -103,6 +109,7 @@ abbrev pub run : ℕ → Setting → RunState → RunEnd × RunState
 run zero p s = (Fault fault_kind.Fuel s.machine.at 0, s)
 run (suc fuel) p s = go_on (run fuel p) (step p s)
 
+-- what a run has: this machine, as many stores as are noted, and these words of the object
 abbrev pub state : Machine → Undo → List ℕ → RunState
 state m u image = record { machine = m; stores = u.count; image = image }
 

@@ -17,7 +17,8 @@ use program_code::Program;
 use program_machine::{Machine, RunEnd, RunFault};
 use std::alloc::{AllocError, Global};
 
-/// A program over an object of `lines` lines. Each operation takes at most `fuel` instructions.
+/// A program over an object of `lines` lines. Each operation takes at most `fuel` instructions. `version` is the fingerprint of the program, and
+/// `before` is that of a program whose images are taken over, if there is one.
 #[derive(Drop)]
 pub struct ProgramObject {
     lines: u64,
@@ -59,7 +60,9 @@ impl ProgramObject {
         self.version
     }
 
-    /// Runs the program once, and puts back what a run that a fault ends has stored. `Halt` comes only where no access is left.
+    /// Runs the program once for the operation `op`, and writes its reply. The run may store to the object only where `writes` says so. What a run
+    /// that a fault ends has stored is put back. `Changes` relates the object's words before and after, as `Operates` says. `Halt` comes only where
+    /// no access is left.
     fn operate<M: Memory>(
         &self,
         mem: &mut M,
@@ -86,6 +89,7 @@ impl ProgramObject {
             &mut machine,
             &mut undo,
         )? {
+            // the reply begins with 1 and the value, or with the fault's number, the instruction and the address
             RunEnd::Returned(value) => *reply = returned(value, &machine.reply),
             RunEnd::Fault { kind, at, address } => {
                 if writes {
@@ -98,14 +102,15 @@ impl ProgramObject {
     }
 }
 
-/// Whether the numbers of a program's object are within their limits.
+/// Whether the numbers of a program's object are within their limits: 1 to 2^26 lines, a fuel of at most 2^20, and a fingerprint `before`, if there
+/// is one, that is not `version`.
 fn numbers_fit(lines: u64, fuel: u64, version: u64, before: Option<u64>) -> bool
     ensures { result ≡ spec.numbers_fit lines fuel version before }
 {
     lines >= 1 && lines <= 1 << 26 && fuel <= 1 << 20 && is_other(before, version)
 }
 
-/// Whether the version before, if there is one, is another than this.
+/// Whether the fingerprint `before`, if there is one, is another than `version`.
 fn is_other(before: Option<u64>, version: u64) -> bool
     ensures { result ≡ spec.is_other before version }
 {
@@ -124,7 +129,8 @@ fn is_image(words: &[u64], lines: u64, version: u64) -> bool
     words.len() as u64 == 8 * lines && words[0] == version
 }
 
-/// The machine as a run begins.
+/// The machine as a run begins, for an object of `lines` lines. Registers 1 to 4 hold the addresses of the request, the reply and the object, and
+/// how many bytes of the object the program has. Register 10 holds the end of the stack of 4,096 bytes. All else is 0.
 #[tactic(auto, unfolding(crate::specs::Meaning::start))]
 fn started(lines: u64) -> Machine
     requires some { 1 ≤ lines }
@@ -173,7 +179,7 @@ fn fault_number(kind: RunFault) -> u64
     }
 }
 
-/// The reply of a run that returned a value.
+/// The reply of a run that returned `value`: `reply` as the run left it, with 1 in its first word and the value in its second.
 fn returned(value: u64, reply: &OpWords) -> OpWords
     ensures { result ≡ spec.returned value reply.now }
 {
@@ -183,7 +189,7 @@ fn returned(value: u64, reply: &OpWords) -> OpWords
     words
 }
 
-/// The reply of a run that a fault ended.
+/// The reply of a run that a fault ended: the fault's number, the number of the instruction, the address, and zeros.
 #[tactic(auto, unfolding(crate::specs::Meaning::faulted))]
 fn faulted(kind: RunFault, at: u64, address: u64) -> OpWords
     ensures { result ≡ spec.faulted (spec.fault_number kind) at address }
@@ -195,7 +201,8 @@ fn faulted(kind: RunFault, at: u64, address: u64) -> OpWords
     words
 }
 
-/// What a program is asked once for each image that it takes over.
+/// The operation that a program is run with once for each image that it takes over: a first word of 2^64 - 2, an even number, so that the run may
+/// store; then the fingerprint `old` of the program before.
 #[tactic(auto, unfolding(crate::specs::Meaning::upgrade_request))]
 fn upgrade_request(old: u64) -> OpWords
     ensures { result ≡ spec.upgrade_request old }
@@ -206,6 +213,9 @@ fn upgrade_request(old: u64) -> OpWords
     words
 }
 
+// Of an object `o`: `lawful` says which words are an image of it, `opening` is its first image, and `step` is the image and the reply after an
+// operation. `old_format` is the format of the images that it takes over. The items from `opens` on are the laws of an object, each proved by the
+// law that it names.
 impl Object for ProgramObject {
     ghost line_count = { λ o. o.lines };
 
@@ -290,6 +300,7 @@ impl Object for ProgramObject {
         match self.before {
             None => {}
             Some(old) => {
+                // the image becomes one of this program, which is then run once over it
                 words[0] = self.version;
                 let mut mem = SliceMemory { words };
                 let mut reply = [0; OP_WORDS];

@@ -9,7 +9,9 @@ use cx_base::{Halt, Memory, OpWords};
 use program_code::Instruction;
 use program_machine::{Machine, RunEnd, RunFault, Wish, part, with_part};
 
-/// Gives an instruction what it wishes of the object's words, and returns the end of the run, if it ends there.
+/// Gives an instruction what it still needs, `wish`, of the object's words in `mem`, which are `words` many. It answers the end of the run, or
+/// `None` where the run goes on. A store goes only where `writes` says so, and the word that it replaces is noted in `undo`. `Changes` relates the
+/// words before and after: they, the machine and `undo` are as `Granted` says. `Err` comes only where no access to the memory is left.
 #[inline(always)]
 fn grant<M: Memory>(
     wish: Wish,
@@ -24,6 +26,7 @@ fn grant<M: Memory>(
     ensures leaves { spec.LeavesRun M.Memory writes mem.old mem.new undo.new }
 {
     match wish {
+        // the instruction needed no word of the object and is done: the run goes on
         Wish::Goes => Ok(None),
         Wish::Ends(end) => Ok(Some(end)),
         Wish::Loads {
@@ -32,6 +35,7 @@ fn grant<M: Memory>(
             address,
             to,
         } => {
+            // the object's first line of eight words, and what is behind the object, are not for the program
             if place < 8 || place >= words {
                 return Ok(end_by_fault(machine, RunFault::Address, address));
             }
@@ -48,12 +52,14 @@ fn grant<M: Memory>(
             if place < 8 || place >= words {
                 return Ok(end_by_fault(machine, RunFault::Address, address));
             }
+            // a store to the object in an operation that only reads is a fault, and so is a store after 256 of them
             if !writes {
                 return Ok(end_by_fault(machine, RunFault::ReadOnly, address));
             }
             if undo.count >= 256 {
                 return Ok(end_by_fault(machine, RunFault::Stores, address));
             }
+            // the part of the word is replaced, and the word that it was is noted for the undo
             let word = mem.load(place)?;
             mem.store(place, with_part(unit, address, word, value))?;
             undo.push(place, word);
@@ -63,7 +69,7 @@ fn grant<M: Memory>(
     }
 }
 
-/// The end of a run by a fault at the machine's instruction.
+/// The end of a run by a fault of this kind at the machine's instruction, with the address that it was to access, or 0 where there is none.
 #[inline(always)]
 fn end_by_fault(machine: &Machine, kind: RunFault, address: u64) -> Option<RunEnd>
     ensures { result ≡ spec.end_by_fault machine.now kind address }
@@ -75,7 +81,9 @@ fn end_by_fault(machine: &Machine, kind: RunFault, address: u64) -> Option<RunEn
     })
 }
 
-/// Does one instruction, and returns the end of the run, if it ends there.
+/// Does the machine's next instruction of `code`, and returns the end of the run, or `None` where the run goes on. `constants` are the program's
+/// words, `words` is how many words the object in `mem` has, `request` is the operation, and `writes` says whether it may store to the object.
+/// `undo` notes what stores replace. In the contract, `setting` is what does not change in a run: code, constants, words, request and `writes`.
 #[inline(always)]
 fn step<M: Memory>(
     code: &[Instruction],
@@ -99,7 +107,10 @@ fn step<M: Memory>(
     grant(wish, writes, words, mem, machine, undo)
 }
 
-/// Runs to the end, with at most as many instructions as there is fuel. `Halt` comes only where no access is left.
+/// Runs `code` to its end, with at most `fuel` instructions, and returns the end; a run that needs more ends by a fault. `constants` are the
+/// program's words, `words` is how many words the object in `mem` has, `request` is the operation, and `writes` says whether it may store to the
+/// object. `undo` notes what stores replace. In the contract, `setting` is what does not change in a run: code, constants, words, request and
+/// `writes`. `Halt` comes only where no access is left.
 pub fn to_end<M: Memory>(
     code: &[Instruction],
     constants: &[u64],

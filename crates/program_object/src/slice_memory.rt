@@ -12,6 +12,8 @@ pub struct SliceMemory<'a> {
     ghost fit: { All (λ x. x < 2 ^ 64) words.now },
 }
 
+// Of a memory `m`: `size` is how many words it has, `fixed` is what no access changes, `left` is how many accesses are left (`None`: there is no
+// limit), and `stands` says what is known of its words: here, all of them.
 impl Memory for SliceMemory<'_> {
     ghost use Rattle.std.specs.Borrow.{GName};
 

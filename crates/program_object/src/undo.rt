@@ -9,7 +9,7 @@ use cx_base::{Halt, Memory};
 /// How many stores one operation may make.
 pub const MOST: usize = 256;
 
-/// The places of stores, in order, and the words that they replaced.
+/// The stores of one operation so far: `count` of them, with the place of each in `places` and the word that it replaced in `words`, in order.
 #[derive(Drop)]
 pub struct Undo {
     pub count: usize,
@@ -18,7 +18,7 @@ pub struct Undo {
 }
 
 impl Undo {
-    /// Nothing to be taken back yet.
+    /// No stores yet.
     pub fn none() -> Undo
         ensures { result.count ≡ 0 }
     {
@@ -29,7 +29,7 @@ impl Undo {
         }
     }
 
-    /// Adds a store: its place, and the word that it replaced.
+    /// Adds a store: `place` is the number of the word, and `word` is what it replaced. There has to be room for it.
     pub fn push(&mut self, place: u64, word: u64)
         requires { self.old.count < 256 }
         ensures pushed { self.new ≡ spec.store_noted self.old place word }
@@ -51,6 +51,7 @@ pub fn undo_all<M: Memory>(mem: &mut M, words: u64, undo: &Undo) -> Result<(), H
     ensures { Changes M.Memory mem.old mem.new result (λ _ before now. now ≡ spec.undone words undo.now.count undo.now.places undo.now.words before) }
 {
     for turn in 0..undo.count {
+        // the last store first, so that a word that was stored to twice gets back what it had at first
         let k = undo.count - 1 - turn;
         put_back(mem, words, undo.places[k], undo.words[k])?;
     }

@@ -3,6 +3,7 @@ use Rattle.cx_core.specs.declared.entry.Image.{Image}
 use Rattle.c_images.proofs.Placed.{at_replica, below_count, says_region}
 use Rattle.c_images.proofs.reader.region_image.Goals as goal
 
+-- the image has the numbers of the head, and the pairs put the words after it where the named replica begins, so it says these words
 pub returns : goal.returns
 returns c =
     let words = c.args.words.now in

@@ -7,6 +7,7 @@ matched : {A B : Type 0} (r : Result A B) (P Given : A → Type 0) (Q Handed : B
 matched (Ok a) P Given Q Handed given handed f g = f a given
 matched (Err b) P Given Q Handed given handed f g = g b handed
 
+-- a service that was closed was within its limits and had all its seats; where memory ran out, what is handed back is what was given
 pub returns : goal.returns
 returns g c =
     let running = c.lines.ensures.running in

@@ -16,9 +16,11 @@ use Rattle.c_sessions.specs.declared.rule.Knows.{Knows}
 use Rattle.c_sessions.proofs.Endings.{are_accounted, has_all, has_same, its_share, no_share}
 use Rattle.c_sessions.proofs.close.close_rest.Goals as goal
 
+-- the callers that were taken out before are what `gather` is given
 pub gather-service-requires-clause-taken : goal.gather-service-requires-clause-taken
 gather-service-requires-clause-taken g c = (c.requires.0, c.requires.1, subst (λ (h : ReturnQueue _). HasTaken c.requires.0 c.requires.1 h c.args.rest.exit.pass c.args.rest.service c.args.rest.exit.gathered.items) (sym c.deref.ensures) c.requires.2.has)
 
+-- the pass is of the queue and knows the service, as `learn` needs
 pub learn-requires : goal.learn-requires
 learn-requires g c =
     let r = c.requires.0 in let given = c.requires.1 in
@@ -26,6 +28,7 @@ learn-requires g c =
     let here = subst (λ (h : ReturnQueue _). HasTaken r given h c.gather-service.new.pass c.gather-service.result.0 c.gather-service.result.1.items) (c.deref.ensures ∙ sym c.deref-3.ensures) has in
     (here.of, r, ap (λ (v : Knows _). v.home) here.is)
 
+-- where as many callers were gathered as the service has, there is a share of it
 pub unreachable-requires : goal.unreachable-requires
 unreachable-requires g c =
     let r = c.requires.0 in let given = c.requires.1 in
@@ -35,6 +38,7 @@ unreachable-requires g c =
     let many : r.callers ≤ length c.gather-service.result.1.items = omega (arith, count, found, least, c.gather-service.result.1.ok) in
     no_share r c.gather-service.result.0 c.gather-service.result.1.items has.share_is c.in_default.is c.requires.2.some many
 
+-- each caller that was gathered is one of the service that was had alone
 pub in_order-callers-requires-clause-all : goal.in_order-callers-requires-clause-all
 in_order-callers-requires-clause-all g c =
     let r = c.requires.0 in let given = c.requires.1 in
@@ -42,6 +46,7 @@ in_order-callers-requires-clause-all g c =
     let same = c.in-Ok.ensures.ok ∙ its_share r c.gather-service.result.0 c.in-Some.service c.gather-service.result.1.items has.share_is c.in-Some.is in
     subst (λ (q : Running _). All (IsHandedOf q) c.gather-service.result.1.items) (sym same) has.each
 
+-- the callers that were gathered are all of the service, each once
 pub in_order-callers-requires-clause-numbers : goal.in_order-callers-requires-clause-numbers
 in_order-callers-requires-clause-numbers g c =
     let r = c.requires.0 in let given = c.requires.1 in
@@ -53,6 +58,7 @@ in_order-callers-requires-clause-numbers g c =
     subst (λ (q : Running _). (h : ℕ → ℕ) → total_weight (λ (x : Handed). h (handed_number x)) c.gather-service.result.1.items ≡ total_weight h (range_with_len 0 q.callers)) (sym same)
     (has_all r given c.deref.result.now c.gather-service.new.pass c.gather-service.result.0 c.gather-service.result.1.items has many c.learn.ensures.all)
 
+-- there is room for all callers of the service in order
 pub in_order-callers-requires-clause-out : goal.in_order-callers-requires-clause-out
 in_order-callers-requires-clause-out g c =
     let r = c.requires.0 in let given = c.requires.1 in
@@ -60,11 +66,13 @@ in_order-callers-requires-clause-out g c =
     let same = c.in-Ok.ensures.ok ∙ its_share r c.gather-service.result.0 c.in-Some.service c.gather-service.result.1.items has.share_is c.in-Some.is in
     (c.requires.2.out.none, subst (λ (q : Running _). q.callers ≤ vec_capacity c.args.rest.exit.out) (sym same) c.requires.2.out.enough)
 
+-- closing the service with all callers, which the pass accounts for, is what the function promises
 pub returns-in-Ok : goal.returns-in-Ok
 returns-in-Ok g c = λ r given is. (
     let pass = c.learn.new.pass in
     let gathered = c.gather-service.result.1.items in
     let share = c.gather-service.result.0 in
+    -- what the pass took out, before and after it learned where the callers are
     let had = c.gather-service.ensures.taken r given (subst (λ (h : ReturnQueue _). HasTaken r given h c.args.rest.exit.pass c.args.rest.service c.args.rest.exit.gathered.items) (sym c.deref.ensures) is.has) in
     let handover = arc_value c.args.rest.exit.handover in
     let before = subst (λ (h : ReturnQueue _). HasTaken r given h c.gather-service.new.pass share gathered) c.deref.ensures had in
@@ -73,6 +81,7 @@ returns-in-Ok g c = λ r given is. (
     let tells = subst (λ (v : Knows _). TellsAll v) (sym c.learn.ensures.same.1) c.learn.ensures.all in
     let count : c.deref-2.result.now.callers ≡ r.callers = ap (λ (h : ReturnQueue _). h.callers) c.deref-2.ensures ∙ is.count in
     let found = c.len.ensures in let least = c.if-len-deref.false in
+    -- as many callers were gathered as the service has
     let many : r.callers ≤ length gathered = omega (arith, count, found, least, c.gather-service.result.1.ok) in
     let account : Account _ = record { pass = pass } in
     let accounted : AreAccounted handover given account c.in_order-callers.result.items = are_accounted r given handover pass share gathered has many tells account c.in_order-callers.result.items refl c.in_order-callers.ensures.same in

@@ -12,5 +12,6 @@ invariant-loop-pass g l = record {
   room : l.handover.callers ≤ vec_capacity l.gathered;
 }
 
+-- how many callers of the service are not gathered yet: fewer in each round
 abbrev pub decreases-loop-pass : goal.decreases-loop-pass
 decreases-loop-pass g l = l.handover.callers - length l.gathered.items

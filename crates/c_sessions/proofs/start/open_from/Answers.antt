@@ -7,6 +7,7 @@ use Rattle.c_sessions.specs.Sessions.{caller_number_in}
 use Rattle.c_sessions.proofs.Numbers.{as_many, number_of}
 use Rattle.c_sessions.proofs.start.open_from.Goals as goal
 
+-- there are as many callers as the new service has, and at most 8
 pub shared-requires-clause-all : goal.shared-requires-clause-all
 shared-requires-clause-all g c =
     let started = c.in-Ok-start.ensures in
@@ -15,6 +16,7 @@ shared-requires-clause-all g c =
     sym (length-map c.in-Ok-start.callers.items number_of) ∙ ap length started.all.numbers ∙ length-range_with_len 0 c.in-Ok-start.service.callers in
     (many, subst (λ n. n ≤ 8) (sym count) started.right.0.1)
 
+-- the sessions are open, of the new service, and of caller 0 first
 pub returns-in-Ok-shared : goal.returns-in-Ok-shared
 returns-in-Ok-shared g c =
     let started = c.in-Ok-start.ensures in

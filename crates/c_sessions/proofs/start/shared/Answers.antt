@@ -12,6 +12,7 @@ use Rattle.c_sessions.specs.Sessions.{IsOpenSessionOf}
 use Rattle.c_sessions.proofs.Numbers.{ended, moved, number_of}
 use Rattle.c_sessions.proofs.start.shared.Goals as goal
 
+-- the pass is still to hand in the callers that are left, as the next session's pass is made of it
 pub another-requires-clause-handover : goal.another-requires-clause-handover
 another-requires-clause-handover g c =
     let handover = c.in_ok-handover.handover in let service = c.args.service in
@@ -20,6 +21,7 @@ another-requires-clause-handover g c =
     let pass = own_due service (map number_of (into_iter_items c.loop-caller.caller-iterator)) (arc_value c.in-Ok-new.handover) c.loop-caller.pass c.loop-caller.invariant.pass in
     (search rules, subst (λ (r : Running _). IsPassIn r (view c.loop-caller.pass).due (arc_value c.in-Ok-new.handover) c.loop-caller.pass) (sym of) pass)
 
+-- where one caller more goes into a session, the sessions made are open, and the pass is to hand in the callers left
 pub loop-caller-preserved : goal.loop-caller-preserved
 loop-caller-preserved g c =
     let kept = c.loop-caller.invariant in let step = c.in-Some.ensures.steps.0 in let service = c.args.service in
@@ -34,6 +36,7 @@ loop-caller-preserved g c =
       numbers = moved c.loop-caller.sessions.items _ c.of-session.result c.in-Some.caller (into_iter_items c.next.new.self) (into_iter_items c.loop-caller.caller-iterator) (map number_of c.args.callers.items) c.in-Ok-push.ensures.items step c.of-session.ensures.of.1 kept.numbers;
     }
 
+-- no callers are left at the end, so each has its session, in order
 pub returns : goal.returns
 returns g c =
     let kept = c.loop-caller.invariant in

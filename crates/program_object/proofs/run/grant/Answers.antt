@@ -2,6 +2,7 @@ use Rattle.cx_base.proofs.MemoryLemmas.{Framed-then, Framed-access}
 use Rattle.program_object.proofs.Undoing.{granted_store_at}
 use Rattle.program_object.proofs.run.grant.Goals as goal
 
+-- after a load and a store of the word, a store was granted: the word has another part, and its old value is noted
 pub returns-in_ok-store-in-Stores-clause-done : goal.returns-in_ok-store-in-Stores-clause-done
 returns-in_ok-store-in-Stores-clause-done g c =
     let loaded = c.in_ok-word-in-Stores.ensures in

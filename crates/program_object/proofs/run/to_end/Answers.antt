@@ -4,6 +4,7 @@ use Rattle.program_object.specs.Run.{setting}
 use Rattle.program_object.proofs.Running.{at_end, on_by_one}
 use Rattle.program_object.proofs.run.to_end.Goals as goal
 
+-- a step that ends the run makes what went before it a run to that end
 pub returns-in-Some-clause-done : goal.returns-in-Some-clause-done
 returns-in-Some-clause-done g c =
     let a = c.args in
@@ -16,6 +17,7 @@ returns-in-Some-clause-done g c =
       framed = Framed-then i.framed e.done.framed;
     }
 
+-- a step that does not end the run leaves one instruction fewer of it
 pub loop-turn-preserved : goal.loop-turn-preserved
 loop-turn-preserved g c =
     let a = c.args in

@@ -3,6 +3,7 @@ use Rattle.cx_base.proofs.MemoryLemmas.{Becomes-then, Framed-then}
 use Rattle.program_object.proofs.Running.{back_by_one}
 use Rattle.program_object.proofs.undo.undo_all.Goals as goal
 
+-- one word more put back leaves one store fewer to be undone
 pub loop-turn-preserved : goal.loop-turn-preserved
 loop-turn-preserved g c =
     let u = c.args.undo.now in

@@ -4,6 +4,7 @@ use Rattle.c_sessions.specs.Calls.{CallsFrom, place_after}
 use Rattle.c_sessions.proofs.Places.{Left, calls_go, left_by}
 use Rattle.c_sessions.proofs.session.Session.call.Goals as goal
 
+-- after the call the session is open, and its place and caller are as the result says
 left : (g : _) (c : goal.After-self-2-1 g) →
     Left c.args.self.now c.call_idle-handed.result.0 c.place_after-self.result (place_after c.call_idle-handed.result.1 c.args.self.now.place)
     (λ (r : Running _) x y. CallsFrom g.O.Object.only_reads r c.args.op.now c.args.tries.count x c.call_idle-handed.result.1 y c.call_idle-handed.new.reply)

@@ -4,6 +4,7 @@ use Rattle.c_sessions.specs.Places.{CatchesUpFrom, place_seen}
 use Rattle.c_sessions.proofs.Places.{Left, sees_go, left_by}
 use Rattle.c_sessions.proofs.session.Session.catch_up.Goals as goal
 
+-- after catching up the session is open, and its place and caller are as the result says
 left : (g : _) (c : goal.After-self-2-1 g) →
     Left c.args.self.now c.catch_up_idle-handed.result.0 c.place_seen-self.result (place_seen c.catch_up_idle-handed.result.1 c.args.place c.args.self.now.place)
     (λ (r : Running _) x y. CatchesUpFrom r c.args.place x c.catch_up_idle-handed.result.1 y)

@@ -4,6 +4,7 @@ use Rattle.c_sessions.specs.Images.{TakesFrom, place_taken}
 use Rattle.c_sessions.proofs.Places.{Left, takes_go, left_by}
 use Rattle.c_sessions.proofs.session.Session.checkpoint.Goals as goal
 
+-- after taking an image the session is open, and its place and caller are as the result says
 left : (g : _) (c : goal.After-self-2-1 g) →
     Left c.args.self.now c.take_image-handed.result.0 c.place_taken-self.result (place_taken c.take_image-handed.result.1 c.args.self.now.place)
     (λ (r : Running _) x y. TakesFrom g.O.Object r c.take_image-handed.new.into c.args.tries.count x c.take_image-handed.result.1 y)

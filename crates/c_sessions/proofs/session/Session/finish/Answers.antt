@@ -4,6 +4,7 @@ use Rattle.c_sessions.specs.Calls.{FinishesFrom, place_after}
 use Rattle.c_sessions.proofs.Places.{Left, finishes_go, left_by}
 use Rattle.c_sessions.proofs.session.Session.finish.Goals as goal
 
+-- after finishing the linked entry the session is open, and its place and caller are as the result says
 left : (g : _) (c : goal.After-self-2-1 g) →
     Left c.args.self.now c.finish_linked-handed.result.0 c.place_after-self.result (place_after c.finish_linked-handed.result.1 c.args.self.now.place)
     (λ (r : Running _) x y. FinishesFrom r c.args.tries.count x c.finish_linked-handed.result.1 y c.finish_linked-handed.new.reply)
