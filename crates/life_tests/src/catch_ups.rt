@@ -16,7 +16,8 @@ use std::test::Fail;
 /// No limit of steps.
 const NO_LIMIT: u64 = u64::MAX;
 
-// A client catches up with a place. Returns that place, or the current place where this is below it, and `None` where the client's caller is stopped.
+// A live client catches up with a place, and is left a client of the pool. Returns that place, or the current place where this is lower. `None` where
+// the client's caller is stopped.
 fn found<R: Wait>(rt: &R, pool: &Pool<Counters>, client: &mut Client, place: u64) -> Option<u64>
     requires pool { IsCounterPool pool.now }
     requires client { IsCounterClient pool.now client.old × (is_live client.old.lent.kept ≡ true) }
@@ -30,7 +31,8 @@ fn found<R: Wait>(rt: &R, pool: &Pool<Counters>, client: &mut Client, place: u64
     }
 }
 
-// A client adds 1: its place then. `None` where this is not done.
+// A live client adds 1 to counter 0, and is left a client of the pool. Returns the client's place after that. `None` where the addition is not
+// answered.
 fn added<R: Wait>(rt: &R, pool: &Pool<Counters>, client: &mut Client) -> Option<u64>
     requires pool { IsCounterPool pool.now }
     requires client { IsCounterClient pool.now client.old × (is_live client.old.lent.kept ≡ true) }
@@ -59,8 +61,8 @@ fn read<R: Wait>(rt: &R, pool: &Pool<Counters>, client: &mut Client) -> Option<(
     }
 }
 
-// `one` adds 1, and `other` catches up with the place behind that: whether `other` then reads `sum`. Before, `other` tries a place that is one higher, and
-// finds the current place below it. `None` where a client is stopped or a call is not answered.
+// `one` adds 1, and `other` catches up with the place behind that: whether `other` then reads `sum`. Before, `other` tries a place that is one
+// higher, and finds the current place below it. `None` where a client is stopped or a call is not answered.
 fn follows<R: Wait>(
     rt: &R,
     pool: &Pool<Counters>,
@@ -77,17 +79,20 @@ fn follows<R: Wait>(
     if !one.is_live() || !other.is_live() {
         return None;
     }
+    // `one` adds, and its place is told to `other`, which asks for one place more
     let place = added(rt, pool, one)?;
     let current = found(rt, pool, other, place.wrapping_add(1))?;
     if !other.is_live() {
         return None;
     }
+    // `other` catches up with the place itself
     let before = other.caught_up();
     let caught = found(rt, pool, other, place)?;
     if !other.is_live() {
         return None;
     }
     let seen = other.caught_up();
+    // `other` reads at the place `at`, which is no lower, and so sees what `one` added
     let (at, sum_read) = read(rt, pool, other)?;
     Some(
         current == place
@@ -107,6 +112,7 @@ fn follow_by_turns<R: Wait>(rt: &R, alloc: Global, callers: u32) -> Result<bool,
         return Ok(false);
     };
     for turn in 0..20 {
+        // what the counter has after the first of this turn's two additions
         let sum = 2 * turn + 1;
         if follows(rt, &pool, &mut one, &mut other, sum) != Some(true) {
             return Ok(false);

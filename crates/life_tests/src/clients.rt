@@ -12,7 +12,8 @@ use std::alloc::{AllocError, Global};
 use std::sync::Wait;
 use std::thread::{self, Threads, map_vec};
 
-/// A client asks to add 1 to counter 0. Returns whether the answer is `Full`, so that the client has to ask again.
+/// A live client asks to add 1 to counter 0, and is left a client of the pool. Returns whether the answer is `Full`, so that the client has to ask
+/// again.
 fn adds<R: Wait>(rt: &R, pool: &Pool<Counters>, client: &mut Client) -> bool
     requires pool { IsCounterPool pool.now }
     requires client { IsCounterClient pool.now client.old × (is_live client.old.lent.kept ≡ true) }
@@ -26,7 +27,7 @@ fn adds<R: Wait>(rt: &R, pool: &Pool<Counters>, client: &mut Client) -> bool
     }
 }
 
-/// A client asks to read counter 0. Returns whether the answer is `Full`, so that the client has to ask again.
+/// A live client asks to read counter 0, and is left a client of the pool. Returns whether the answer is `Full`, so that the client has to ask again.
 fn reads<R: Wait>(rt: &R, pool: &Pool<Counters>, client: &mut Client) -> bool
     requires pool { IsCounterPool pool.now }
     requires client { IsCounterClient pool.now client.old × (is_live client.old.lent.kept ≡ true) }
@@ -41,7 +42,8 @@ fn reads<R: Wait>(rt: &R, pool: &Pool<Counters>, client: &mut Client) -> bool
     }
 }
 
-/// A live client calls until it is not answered Full: the others give back in time what it needs.
+/// A client reads, where `is_read` is true, or adds 1. Where the answer is `Full`, it asks again, until it has another answer or is stopped. A client
+/// that is not live makes no call.
 fn calls<R: Wait>(rt: &R, pool: &Pool<Counters>, client: &mut Client, is_read: bool)
     requires pool { IsCounterPool pool.now }
     requires client { IsCounterClient pool.now client.old }
@@ -63,7 +65,7 @@ fn calls<R: Wait>(rt: &R, pool: &Pool<Counters>, client: &mut Client, is_read: b
     }
 }
 
-/// A client adds 1 `additions` times, and reads.
+/// A client adds 1 to counter 0 `additions` times, and then reads it. The client is returned.
 fn works<R: Wait>(rt: &R, pool: &Pool<Counters>, client: Client, additions: u64) -> Client
     requires pool { IsCounterPool pool.now }
     requires client { IsCounterClient pool.now client }
@@ -77,7 +79,7 @@ fn works<R: Wait>(rt: &R, pool: &Pool<Counters>, client: Client, additions: u64)
     client
 }
 
-/// The clients make their calls on this thread, one client after another, and all of them are returned.
+/// The clients make their calls on this thread, one client after another, and all of them are returned, each at its place.
 fn in_turn<R: Wait>(
     rt: &R,
     alloc: Global,
@@ -96,7 +98,7 @@ fn in_turn<R: Wait>(
     Ok(worked)
 }
 
-/// The clients make their calls, each client on a thread of its own, and all of them are returned.
+/// The clients make their calls, each client on a thread of its own, and all of them are returned: as many as before, and each at its place.
 fn on_threads<R: Wait + Threads + Sync>(
     rt: &R,
     pool: &Pool<Counters>,
@@ -131,6 +133,7 @@ pub(crate) fn all_work<R: Wait + Threads + Sync>(
     requires clients { AreCounterClients pool.now clients.items }
     ensures { IfOk result (λ v. AreCounterClients pool.now v.items) }
 {
+    // true: each client on a thread of its own
     if threads {
         let worked = on_threads(rt, pool, clients, additions)?;
         Ok(worked)

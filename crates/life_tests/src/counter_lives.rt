@@ -47,7 +47,8 @@ const STOPPED: [Row; 1] = [(1, Some(1))];
 /// What the client reads in the last life.
 const LAST: [Row; 1] = [(1, None)];
 
-/// Runs the lives of a script of counters.
+/// Runs the lives of a script of counters. The object has 64 to 16,384 lines, and the script keeps the limits of scripts; then the records of the
+/// lives are legal.
 fn counter_lives<R: Threads + Wait + Sync>(
     rt: &R,
     alloc: Global,
@@ -62,7 +63,8 @@ fn counter_lives<R: Threads + Wait + Sync>(
     run_lives(rt, alloc, counters, script, &OpenGate)
 }
 
-/// Runs one life more, of a client alone, whose commands stand in a list of one's own.
+/// Runs one life more after those in `lived`, of client 0 alone, which gives these commands. The lives have 100,000 commands at most. The records of
+/// all lives are legal then, those of the new life too.
 fn with_life<R: Threads + Wait + Sync>(
     rt: &R,
     alloc: Global,
@@ -80,6 +82,7 @@ fn with_life<R: Threads + Wait + Sync>(
     run_next_life(rt, alloc, counters, lived, &life, &OpenGate)
 }
 
+// The command of a row, which is client 0's.
 fn command(row: &Row) -> Command<Op>
     ensures client { result.client ≡ 0 }
     ensures op { IsOp result.op }
@@ -92,6 +95,7 @@ fn command(row: &Row) -> Command<Op>
     Command { client: 0, op }
 }
 
+// The commands of all rows, in their order.
 fn commands(alloc: Global, rows: &[Row]) -> Result<Vec<Command<Op>>, AllocError>
     ensures each { IfOk result (λ commands. All (λ c. (c.client ≡ 0) × IsOp c.op) commands.items) }
     ensures count { IfOk result (λ commands. vec_len commands ≡ length rows.now) }
@@ -103,6 +107,7 @@ fn commands(alloc: Global, rows: &[Row]) -> Result<Vec<Command<Op>>, AllocError>
     Ok(commands)
 }
 
+// The step limit of client 0 as a list for a life: one, or none where `steps` is `None`.
 fn cuts(alloc: Global, steps: Option<u64>) -> Result<Items<Cut>, AllocError>
     ensures { IfOk result (λ cuts. (cuts ≡ []) ⊎ ((n : ℕ) × (n < 2 ^ 64) × (cuts ≡ record { client = 0; steps = n } ∷ []))) }
 {
@@ -128,6 +133,7 @@ fn life(alloc: Global, cut: Option<u64>, rows: &[Row]) -> Result<Life<Op>, Alloc
     })
 }
 
+// The script of the first two lives: in the second one the client is stopped before its first step.
 fn script(alloc: Global) -> Result<Script<Op>, AllocError>
     ensures limits { IfOk result (KeepsLimits IsOp 8) }
     ensures few { IfOk result (λ script. command_count script.lives ≤ 6) }
@@ -169,6 +175,8 @@ fn are_wanted(records: &[LifeRecord<Reply>]) -> bool {
     let [first, stopped, last] = records else {
         return false;
     };
+    // the first life: four entries, all kept, and a read behind two of them; the second: nothing done; the last: counter 1 is as the first life left
+    // it
     has_answers(first, &ANSWERS)
         && has_read(first, 2, Reply::Value(995))
         && first.kept == 4

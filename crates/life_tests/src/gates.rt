@@ -15,7 +15,7 @@ use std::sync::atomic::{AtomicBool, AtomicU64, Ordering};
 use std::test::Fail;
 use std::thread::{Threads, yield_now};
 
-// The most turns for which a command is held.
+// How often a client that is held looks whether it may go on, at most.
 const TURNS: u64 = 1_000_000_000;
 
 // A gate that holds client 0's first command until client 1's first command was answered.
@@ -23,15 +23,17 @@ const TURNS: u64 = 1_000_000_000;
 struct Held {
     // whether client 1's first command was answered
     answered: AtomicBool,
-    // how many of the `TURNS` were left then, at least 1; 0 where client 0 waited in vain
+    // how many of the `TURNS` looks were left when client 0 went on, at least 1; 0 where it waited in vain
     left: AtomicU64,
 }
 
 impl Gate for Held {
     fn pass(&self, client: u32, command: u64, after: bool) {
+        // client 1's first command was answered
         if client == 1 && command == 1 && after {
             self.answered.store(true, Ordering::SeqCst);
         }
+        // only client 0 is held, before its first command
         if client != 0 || command != 1 || after {
             return;
         }
@@ -53,7 +55,7 @@ const TWO: &str = "lines 64\nlife 2 power 0\n0 add n 1\n1 add n 1\n";
 const SECOND_FIRST: &str =
     "life 0 clients 2 from 0\n0 1.1 add n 1 = sum 1\n1 0.1 add n 1 = sum 2\npower 0 kept 2 of 2 documents 1\n";
 
-// Whether the lives of a script, run past a gate, have the report `want`.
+// Whether the lives of a script, whose commands pass `gate`, have the report `want`.
 #[tactic(auto, using(life_records::proofs::Naming::names_of_lives))]
 fn is_reported<R: Threads + Wait + Sync>(
     rt: &R,
@@ -68,7 +70,7 @@ fn is_reported<R: Threads + Wait + Sync>(
     Ok(report(alloc, script, lived.records.as_slice())?.as_slice() == want)
 }
 
-// Whether a text is a script whose lives, run past a gate, have the report `want`.
+// Whether a text is a script whose lives have the report `want`, where its commands pass `gate`.
 fn has_report<R: Threads + Wait + Sync>(
     rt: &R,
     alloc: Global,
@@ -93,10 +95,11 @@ fn a_gate_holds_a_command(rt: HostRuntime) -> Result<(), Fail> {
     Ok(())
 }
 
-// A gate that holds the first commands of the other clients until client 1 has ended a command. With it, which clients give up does not depend on when
-// threads run.
+// A gate that holds the first commands of the other clients until client 1 has ended a command. With it, which clients give up does not depend on
+// when threads run.
 #[derive(Drop)]
 struct AfterOne {
+    // whether client 1 has ended a command
     ended: AtomicBool,
 }
 
@@ -136,19 +139,20 @@ const OTHERS: &str =
      0 put b 40\n2 put c 40\n0 put b 41\n2 put c 41\n0 put b 42\n2 put c 42\n0 put b 43\n2 put c 43\n0 put b 44\n2 put c 44\n\
      0 put b 45\n2 put c 45\n0 put b 46\n2 put c 46\n0 put b 47\n2 put c 47\n";
 
-// The entries of the three clients of a history, and those that are answered.
+// For each of three clients: how many entries it has in the history, and how many of its entries are answered.
 #[derive(Clone, Copy)]
 struct Counts {
     entries: [u64; 3],
     answered: [u64; 3],
 }
 
+// No entry and no answer.
 const NONE: Counts = Counts {
     entries: [0; 3],
     answered: [0; 3],
 };
 
-// Whether the reply is that of a client's put: the key is new to the first, and the others replace its document.
+// Whether the reply is that of a client's put: `New` for its first one, where the key is new, and `Replaced` for the others.
 fn is_put(reply: &Reply, is_first: bool) -> bool {
     match reply {
         Reply::New => is_first,
@@ -157,13 +161,14 @@ fn is_put(reply: &Reply, is_first: bool) -> bool {
     }
 }
 
-// Counts an entry of the history. Returns false where the entry has another ticket, is not its client's next command, has another reply than that of the
-// put, or stands behind an entry of its client that is not answered.
+// Counts an entry of the history. Returns false where the entry has another ticket, is not its client's next command, has another reply than that of
+// the put, or stands behind an entry of its client that is not answered.
 fn is_counted(counts: &mut Counts, ticket: u64, line: &JournalLine) -> bool {
     let client = line.client as usize;
     if client >= 3 || line.ticket != ticket {
         return false;
     }
+    // the entries of this client so far are all answered, and this is its next command
     let before = counts.entries[client];
     if counts.answered[client] != before || line.command != before.saturating_add(1) {
         return false;
@@ -189,7 +194,7 @@ fn counted(journal: &[JournalLine]) -> Option<Counts> {
     Some(counts)
 }
 
-// How many entries of a client are kept.
+// How many entries of a client are kept: those below the place that is recovered after the crash.
 fn kept_of(life_report: &LifeRecord, client: u32) -> u64 {
     let mut count = 0u64;
     for line in life_report.journal.as_slice() {
@@ -200,23 +205,28 @@ fn kept_of(life_report: &LifeRecord, client: u32) -> u64 {
     count
 }
 
-// Whether what is kept is a part of the history that holds each answer, and has as many documents as clients.
+// Whether what the crash kept is a prefix of the history with each entry that was answered, and has one document for each client of which an entry is
+// kept.
 fn is_kept(life_report: &LifeRecord) -> bool {
     for line in life_report.journal.as_slice() {
         if line.reply.is_some() && line.ticket >= life_report.kept {
             return false;
         }
     }
+    // each client puts all its documents under one key
     let documents = u64::from(kept_of(life_report, 0) > 0)
         + u64::from(kept_of(life_report, 1) > 0)
         + u64::from(kept_of(life_report, 2) > 0);
     life_report.kept <= life_report.journal.len() as u64 && life_report.items == documents
 }
 
-// Whether no client was stopped and client 1 is answered, or client 1 alone was stopped, after `steps` steps, and its line says whether its entry is kept.
+// Whether no client was stopped and client 1 is answered, or client 1 alone was stopped, after `steps` steps, and its line says whether its entry is
+// kept.
 fn is_stopped_or_answered(life_report: &LifeRecord, counts: &Counts, steps: u64) -> bool {
     match life_report.stops.as_slice() {
+        // nobody was stopped
         [] => counts.answered[1] == 1,
+        // one client was stopped: it is client 1, in its first command
         [line] => {
             line.client == 1
                 && line.command == 1
@@ -241,8 +251,8 @@ fn answered_from(life_report: &LifeRecord, client: u32, ticket: u64) -> (u64, bo
     (count, is_there)
 }
 
-// Whether client 0 or 2 ran out of free cells in its next command. Client 1, which was stopped, needs a ticket at or below the one named, and 16 of the
-// client's entries are answered from that one on, which is answered too.
+// Whether `line` says that client 0 or 2 ran out of free cells in its next command. Client 1, which was stopped, needs a ticket at or below the one
+// named, and 16 of the client's entries are answered from that one on, which is answered too.
 fn is_legal_full(life_report: &LifeRecord, counts: &Counts, line: &FullLine) -> bool {
     let client = line.client as usize;
     if client != 0 && client != 2 {
@@ -261,6 +271,7 @@ fn is_legal_full(life_report: &LifeRecord, counts: &Counts, line: &FullLine) -> 
 
 // Whether each of the lines of clients without free cells is legal, in the order of the clients.
 fn are_legal_fulls(life_report: &LifeRecord, counts: &Counts) -> bool {
+    // the least client that the next line may name
     let mut least = 0u32;
     for line in life_report.fulls.as_slice() {
         if line.client < least || !is_legal_full(life_report, counts, line) {
@@ -283,11 +294,13 @@ fn has_ended(life_report: &LifeRecord, counts: &Counts, client: usize) -> bool {
     is_full || counts.answered[client] == UPDATES
 }
 
-// Whether the record of the first life is legal, where client 1 stops after `steps` steps, and others give up only beside it.
+// Whether the record of the first life is legal, where client 1 has the step limit `steps`, and the others run out of cells only where client 1 was
+// stopped.
 fn is_first(life_report: &LifeRecord, steps: u64) -> bool {
     let Some(counts) = counted(life_report.journal.as_slice()) else {
         return false;
     };
+    // what the script asks for, and then what was done
     life_report.clients == 3
         && life_report.choice == 1
         && life_report.from == 0
@@ -299,7 +312,7 @@ fn is_first(life_report: &LifeRecord, steps: u64) -> bool {
         && has_ended(life_report, &counts, 2)
 }
 
-// Whether a reply has the last number put under a key, or says that there is no document where none was put.
+// Whether the reply to a get has the number `last`, or, where this is `None`, says that there is no document.
 fn is_last(reply: &Reply, last: Option<u64>) -> bool {
     match reply {
         Reply::Absent => last.is_none(),
@@ -308,8 +321,9 @@ fn is_last(reply: &Reply, last: Option<u64>) -> bool {
     }
 }
 
-// Whether the second life reads the documents that the first life left.
+// Whether the second life, `life_report`, reads the documents that `first` kept: of each key the last number that was put and kept.
 fn is_second(life_report: &LifeRecord, first: &LifeRecord) -> bool {
+    // the reads of the keys a, b and c, which clients 1, 0 and 2 of the first life have put
     let [a, b, c] = life_report.reads.as_slice() else {
         return false;
     };
@@ -326,6 +340,7 @@ fn is_second(life_report: &LifeRecord, first: &LifeRecord) -> bool {
         && life_report.fulls.is_empty()
         && life_report.kept == 0
         && life_report.items == first.items
+        // one client makes the three reads, and each sees all that was kept
         && (a.client, a.command, a.place) == (0, 1, life_report.from)
         && (b.client, b.command, b.place) == (0, 2, life_report.from)
         && (c.client, c.command, c.place) == (0, 3, life_report.from)
@@ -334,8 +349,8 @@ fn is_second(life_report: &LifeRecord, first: &LifeRecord) -> bool {
         && is_last(&c.reply, kept_of(first, 2).checked_sub(1))
 }
 
-// How many clients ran out of free cells in two lives. `None` where a life is not legal, or where clients 0 and 2 have all updates kept though one ran out,
-// or lack one though none ran out.
+// How many clients ran out of free cells in two lives. `None` where a life is not legal, or where clients 0 and 2 have all updates kept though one
+// ran out, or lack one though none ran out.
 fn gave_up(records: &[LifeRecord], steps: u64) -> Option<usize> {
     let [first, second] = records else {
         return None;
@@ -349,7 +364,8 @@ fn gave_up(records: &[LifeRecord], steps: u64) -> Option<usize> {
     }
 }
 
-// How many clients ran out of free cells in the lives of a script in which client 1 is stopped after `steps` steps and the others wait for that.
+// How many clients ran out of free cells in the lives of a script in which client 1 has the step limit `steps` and the others wait until it has ended
+// a command. `None` where a life is not legal.
 fn tried_script<R: Threads + Wait + Sync>(
     rt: &R,
     alloc: Global,
@@ -365,8 +381,8 @@ fn tried_script<R: Threads + Wait + Sync>(
     Ok(gave_up(lived.records.as_slice(), steps))
 }
 
-// How many clients ran out of free cells in the lives of the script's text: client 1 makes one update and is stopped after `steps` steps, and the next
-// life reads what was left.
+// How many clients ran out of free cells in the lives of the script's text: client 1 makes one update and is stopped after `steps` steps, and the
+// next life reads what was left. `None` where a life is not legal.
 fn tried<R: Threads + Wait + Sync>(
     rt: &R,
     alloc: Global,

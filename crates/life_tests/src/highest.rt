@@ -40,7 +40,8 @@ fn is_answer(answered: &Answered, reply: Reply, number: u64) -> bool {
     have(&answered.words, number) && Reply::of(&answered.reply) == reply
 }
 
-// Whether `query` gives a read the case's reply and leaves the words, which have the case's number already, and gives no reply to any other operation.
+// Whether `query` gives a read the case's reply and leaves the words, which have the case's number already, and gives no reply to any other
+// operation.
 fn answers_query(alloc: Global, words: Vec<u64>, case: &Case) -> Result<bool, AllocError> {
     let (op, reply, number) = case;
     match queried(alloc, &highest(), words, &op.words())? {
@@ -49,7 +50,8 @@ fn answers_query(alloc: Global, words: Vec<u64>, case: &Case) -> Result<bool, Al
     }
 }
 
-// The first of the cases, done one after another from the opening image on, that has another reply or leaves another number.
+// The index of the first of the cases, done one after another from the opening image on, that has another reply or leaves another number. `None`
+// where there is none; the number of cases where there is no opening image.
 fn first_other_case(alloc: Global, cases: &[Case]) -> Result<Option<usize>, AllocError> {
     let object = highest();
     let Some(mut words) = opening(alloc, &object)? else {
@@ -80,7 +82,8 @@ const IMAGES: [(usize, u64, bool); 6] = [
     (0, 1, false),
 ];
 
-// The first row for which `check` returns another answer. Behind the version each word is the greatest number, since the words there may be any.
+// The index of the first row for which `check` returns another answer than `truth`; `None` where there is none. Behind the version each word is the
+// greatest number, since the words there may be any.
 fn first_other_image(
     alloc: Global,
     rows: &[(usize, u64, bool)],

@@ -13,7 +13,8 @@ pub(crate) struct Answered {
     pub(crate) reply: [u64; 144],
 }
 
-/// The opening image of an object of 64 lines, made over 512 words that are all the greatest number. `None` where the object has other lines, or halts.
+/// The opening image of an object of 64 lines, made over 512 words that are all the greatest number. `None` where the object has other lines, or
+/// halts.
 pub(crate) fn opening<O: Object>(
     alloc: Global,
     object: &O,
@@ -28,7 +29,8 @@ pub(crate) fn opening<O: Object>(
     }
 }
 
-/// A memory of `words`. `None` where the words are not 64 lines, or the object does not take them for an image.
+/// A memory of `words`, which are then 64 lines and an image of the object. `None` where the words are not 64 lines, or the object does not take them
+/// for an image.
 fn image_of<O: Object>(
     alloc: Global,
     object: &O,
@@ -67,8 +69,8 @@ pub(crate) fn stepped<O: Object>(
     }
 }
 
-/// The words that `query` leaves for an operation on `words`, and its reply. `None` where `words` are no image, the operation does not only read, or it
-/// halts.
+/// The words that `query` leaves for an operation on `words`, and its reply. `None` where `words` are no image, the operation does not only read, or
+/// it halts.
 pub(crate) fn queried<O: Object>(
     alloc: Global,
     object: &O,

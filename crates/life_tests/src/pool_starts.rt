@@ -12,7 +12,7 @@ use cx_service::{Caller, Service};
 use std::alloc::{AllocError, Global};
 use std::sync::Wait;
 
-/// A service whose callers have this limit of steps, from the object's fresh base.
+/// A service that starts from the object's opening image, and its callers, each with the step limit `limit`. No caller has linked an entry yet.
 fn started<O: Object>(
     alloc: Global,
     object: O,
@@ -29,7 +29,8 @@ fn started<O: Object>(
     }
 }
 
-/// A pool of `callers` callers, each with this limit of steps, and of 1 to 64 clients.
+/// A pool of counters with `callers` callers, each with the step limit `limit`, and its 1 to 64 clients. `Err` also where the numbers are not
+/// allowed.
 pub(crate) fn opened<R: Wait>(
     rt: &R,
     alloc: Global,

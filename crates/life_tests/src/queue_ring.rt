@@ -6,12 +6,12 @@ use fifo_object::Fifo;
 use std::alloc::{AllocError, Global};
 use std::test::Fail;
 
-/// A step: the kind of the operation, the only byte of its text, and the answer. Kinds of operations: 1 push, 2 pop, 3 peek, 4 the number of texts; 7 is
-/// none.
+/// A step: the kind of the operation, the only byte of its text, and the answer. Kinds of operations: 1 push, 2 pop, 3 peek, 4 the number of texts; 7
+/// is none.
 type Step = (u64, u64, Answer);
 
-/// An answer: the kind of the reply, its word 1, which is the length of a text or a number, and the first word of the text. Kinds of replies: 1 pushed,
-/// 2 full, 3 a text, 4 empty, 5 the number of texts; 0 where the words were no operation.
+/// An answer: the kind of the reply, its word 1, which is the length of a text or a number, and the first word of the text. Kinds of replies: 1
+/// pushed, 2 full, 3 a text, 4 empty, 5 the number of texts; 0 where the words were no operation.
 type Answer = (u64, u64, u64);
 
 /// A queue in 2, 3 or 5 lines. The first line is its header, and each other is a place for one text.
@@ -67,7 +67,8 @@ fn opened(alloc: Global, fifo: &Fifo) -> Result<Option<Vec<u64>>, AllocError> {
     }
 }
 
-/// The steps by which the head of a queue of `places` places is moved to `head`, and then the queue is filled, refuses a further text, and is emptied.
+/// The steps by which the head of a queue of `places` places is moved to `head`, and then the queue is filled, refuses a further text, and is
+/// emptied.
 fn steps(alloc: Global, places: u8, head: u8) -> Result<Vec<Step>, AllocError> {
     let mut steps: Vec<Step> = Vec::new(alloc);
     // a text that is pushed and popped moves the head by one place
@@ -79,6 +80,7 @@ fn steps(alloc: Global, places: u8, head: u8) -> Result<Vec<Step>, AllocError> {
     steps.push((2, 0, (4, 0, 0)))?;
     steps.push((3, 0, (4, 0, 0)))?;
     steps.push((4, 0, (5, 0, 0)))?;
+    // each place is filled; a peek sees the first text, and the number of texts rises
     for i in 0..places as u64 {
         steps.push((1, 0x21 + i, (1, 0, 0)))?;
         steps.push((3, 0, (3, 1, 0x21)))?;
@@ -87,6 +89,7 @@ fn steps(alloc: Global, places: u8, head: u8) -> Result<Vec<Step>, AllocError> {
     // the queue is full, and words of no operation change nothing
     steps.push((1, 0x7E, (2, 0, 0)))?;
     steps.push((7, 0, (0, 0, 0)))?;
+    // the texts come out in the order in which they were pushed
     for i in 0..places as u64 {
         steps.push((2, 0, (3, 1, 0x21 + i)))?;
     }
@@ -94,7 +97,8 @@ fn steps(alloc: Global, places: u8, head: u8) -> Result<Vec<Step>, AllocError> {
     Ok(steps)
 }
 
-/// The first step that a new queue of `lines` lines does not answer as its row says.
+/// The index of the first of `steps`, made one after another on a new queue in `lines` lines, that has another answer than its row says. `None` where
+/// there is none.
 fn first_wrong_step(
     alloc: Global,
     lines: u64,
@@ -116,7 +120,8 @@ fn first_wrong_step(
     Ok(None)
 }
 
-/// The number of lines and the head of the first queue that does not answer each of its `steps` as wanted.
+/// The number of lines and the head of the first queue that does not answer each of its `steps` as wanted. `None` where there is none. Each place of
+/// each queue is tried as its head.
 fn first_wrong_queue(alloc: Global) -> Result<Option<(u8, u8)>, AllocError> {
     for lines in [2u8, 3, 5] {
         for head in 0..lines - 1 {
@@ -129,8 +134,8 @@ fn first_wrong_queue(alloc: Global) -> Result<Option<(u8, u8)>, AllocError> {
     Ok(None)
 }
 
-/// An image of three lines with one text, `ab`, at the second place. The header is the version 16, the head 1 and the number of texts 1. The words at the
-/// first place are those of no text.
+/// An image of three lines with one text, `ab`, at the second place. The header is the version 16, the head 1 and the number of texts 1. The words at
+/// the first place are those of no text.
 const IMAGE: [u64; 24] = [
     16, 1, 1, 0, 0, 0, 0, 0, 99, 99, 99, 99, 99, 99, 99, 99, 2, 0x6261, 0, 0, 0, 0, 0, 0,
 ];
@@ -150,7 +155,7 @@ const IMAGES: [(usize, u64, bool); 21] = [
     (2, 2, false),
     (2, 3, false),
     (2, u64::MAX, false),
-    // the rest of the header is 0
+    // the rest of the header, words 3 to 7, is 0
     (3, 1, false),
     (4, 1, false),
     (5, 1, false),
@@ -168,7 +173,7 @@ const IMAGES: [(usize, u64, bool); 21] = [
     (23, 1, false),
 ];
 
-/// The first row for which `check` returns another answer.
+/// The index of the first row for which `check` returns another answer, where word `at` of `IMAGE` is `word`; `None` where there is none.
 fn first_wrong_image(
     alloc: Global,
     rows: &[(usize, u64, bool)],
@@ -196,6 +201,7 @@ fn queues_are_rings(rt: HostRuntime) -> Result<(), Fail> {
 fn images_are_checked(rt: HostRuntime) -> Result<(), Fail> {
     let alloc = rt.alloc();
     holds(&rt, first_wrong_image(alloc, &IMAGES)?.is_none());
+    // two lines are no image of a queue in three
     holds(&rt, !queue_in(3).check(alloc, &IMAGE[..16])?);
     Ok(())
 }

@@ -13,7 +13,7 @@ use std::alloc::{AllocError, Global};
 use std::sync::Wait;
 use std::test::Fail;
 
-/// A service of one caller over the empty queue.
+/// A service of one caller over the empty queue in 64 lines, and that caller. `Err` where memory runs out.
 fn started(alloc: Global) -> Result<(Service<Fifo>, Caller), AllocError>
     ensures { IfOk result (λ r. IsCallerOf r.0 r.1) }
 {
@@ -40,7 +40,8 @@ fn one(mut callers: Vec<Caller>) -> Option<Caller>
     }
 }
 
-/// A caller asks for an operation: the caller, and the reply of the queue. `None` where the call is not answered.
+/// A caller asks for the operation `op`: the caller, and the reply of the queue. `None` where the call is not answered, or the reply is none of a
+/// queue.
 fn asked<R: Wait>(
     rt: &R,
     alloc: Global,
@@ -63,11 +64,12 @@ fn asked<R: Wait>(
     }
 }
 
-/// The operation that has the kind and, where this is a push, the text of one byte that stand in a row. Words that are no operation become a request for
-/// the number of texts.
+/// The operation that has the kind and, where this is a push, the text of one byte that stand in a row. Words that are no operation become a request
+/// for the number of texts.
 fn op_of(alloc: Global, row: &(u64, u64)) -> Result<FifoOp, AllocError>
     ensures { IfOk result IsOp }
 {
+    // the kinds: 1 push, 2 pop, 3 peek, 4 the number of texts; the words of a push are its kind, the length of the text, and the text
     let (kind, byte) = *row;
     let mut words = [0; 144];
     words[0] = kind;
@@ -82,7 +84,7 @@ fn op_of(alloc: Global, row: &(u64, u64)) -> Result<FifoOp, AllocError>
     }
 }
 
-/// Whether a reply is of a kind. A text has the one byte `value`, and the number of texts is `value`.
+/// Whether a reply is of a kind: 1 pushed, 2 full, 3 a text, which has the one byte `value`, 4 empty, 5 the number of texts, which is `value`.
 fn is_reply(reply: &FifoReply, kind: u64, value: u64) -> bool {
     match reply {
         FifoReply::Pushed => kind == 1,
@@ -96,7 +98,8 @@ fn is_reply(reply: &FifoReply, kind: u64, value: u64) -> bool {
     }
 }
 
-/// The kind of an operation and the byte of its text, and the kind and the value of its reply.
+/// The kind of an operation (1 push, 2 pop, 3 peek, 4 the number of texts) and the byte of its text, and the kind of its reply (1 pushed, 3 a text, 4
+/// empty, 5 the number of texts) and its value.
 const CALLS: [((u64, u64), (u64, u64)); 5] = [
     // the text x is pushed, counted, looked at and popped
     ((1, 0x78), (1, 0)),
@@ -107,7 +110,7 @@ const CALLS: [((u64, u64), (u64, u64)); 5] = [
     ((2, 0), (4, 0)),
 ];
 
-/// The first call of `CALLS` that is not answered, or has another reply than its row says.
+/// The index of the first call of `CALLS` that is not answered, or has another reply than its row says.
 fn first_wrong<R: Wait>(
     rt: &R,
     alloc: Global,

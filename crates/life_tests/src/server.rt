@@ -27,12 +27,13 @@ enum Told {
     Over,
 }
 
-/// Answers a request to add.
+/// Answers a request to add `amount` to counter 0. The clauses: a live client of the pool comes in, and the same client is left, still of the pool.
 fn answer<R: Wait>(rt: &R, pool: &Pool<Counters>, client: &mut Client, amount: u64) -> Told
     requires pool { IsCounterPool pool.now }
     requires client { IsCounterClient pool.now client.old × (is_live client.old.lent.kept ≡ true) }
     ensures { IsClientBack pool.now client.old client.new }
 {
+    // word 1 of the reply is what the counter has after the addition
     let mut reply = [0; OP_WORDS];
     let pooled = pool.update(rt, client, &add_words(0, amount), &mut reply);
     match pooled {
@@ -50,6 +51,7 @@ fn serve<R: Wait>(rt: &R, pool: &Pool<Counters>, client: &mut Client, requests: 
     requires client { IsCounterClient pool.now client.old }
     ensures { IsClientBack pool.now client.old client.new }
 {
+    // how many requests were answered with a sum
     let mut answered = 0;
     for _ in rt.forever() {
         if answered >= requests || !client.is_live() {
@@ -64,7 +66,8 @@ fn serve<R: Wait>(rt: &R, pool: &Pool<Counters>, client: &mut Client, requests: 
     answered >= requests
 }
 
-/// Takes one connection after another and answers its requests, until no connection is left or no request is answered any more. The client is returned.
+/// Takes one of `connections` after another and answers its requests, until no connection is left or no request is answered any more. A connection is
+/// its number of requests; `accepted` is the index of the next one, for all threads. The client is returned.
 fn work<R: Wait>(
     rt: &R,
     pool: &Pool<Counters>,
@@ -88,7 +91,8 @@ fn work<R: Wait>(
     client
 }
 
-/// The clients take connections and answer their requests, each client on a thread of its own. The clients are returned.
+/// The clients take connections and answer their requests, each client on a thread of its own. The clients are returned: as many as before, and each
+/// at its place.
 fn on_threads<R: Wait + Threads + Sync>(
     rt: &R,
     pool: &Pool<Counters>,
@@ -100,6 +104,7 @@ fn on_threads<R: Wait + Threads + Sync>(
     ensures long { IfOk result (λ v. vec_len v ≡ vec_len clients) }
     ensures each { IfOk result (λ v. (i : ℕ) (d : _) (e : _) → i < vec_len clients → IsClientBack pool.now (slice_index_or clients.items i d) (slice_index_or v.items i e)) }
 {
+    // the index of the next connection; all threads raise it, so that none is taken twice
     let accepted = AtomicUsize::new(0);
     map_vec(
         rt,
@@ -126,8 +131,8 @@ fn all_work<R: Wait + Threads + Sync>(
     Ok(worked)
 }
 
-/// What the counter has once a server of two callers and three clients has answered the connections, and how many answers its clients have. A connection
-/// is its number of requests.
+/// What the counter has once a server of two callers and three clients has answered the connections, and how many answers its clients have. A
+/// connection is its number of requests. `None` where what the closed pool leaves names no counter.
 fn served<R: Wait + Threads + Sync>(
     rt: &R,
     alloc: Global,
@@ -139,6 +144,7 @@ fn served<R: Wait + Threads + Sync>(
     for client in clients.iter() {
         answers = answers.wrapping_add(client.answers().len() as u64);
     }
+    // the counter is read from what the closed pool leaves
     match pool.close(rt, alloc, clients) {
         Ok(remains) => Ok(last(&remains).map(|(_, count)| (count, answers))),
         Err(_) => Err(AllocError),
@@ -147,6 +153,7 @@ fn served<R: Wait + Threads + Sync>(
 
 #[test]
 fn each_request_is_answered_once(rt: HostRuntime) -> Result<(), Fail> {
+    // 3 + 0 + 20 + 7 + 1 + 30 + 9 = 70 requests, each of which adds 1
     let found = served(&rt, rt.alloc(), &[3, 0, 20, 7, 1, 30, 9])?;
     holds(&rt, found == Some((70, 70)));
     Ok(())

@@ -15,8 +15,8 @@ use std::thread::Threads;
 /// No limit of steps.
 const NO_LIMIT: u64 = u64::MAX;
 
-/// This many callers, each with this limit of steps, are lent to clients, each of which adds 1 a number of times, and reads: one after another, or on
-/// threads.
+/// `callers` callers, each with the step limit `limit`, are lent to `clients` clients. Each client adds 1 to counter 0 `additions` times, and then
+/// reads it. They do so on threads of their own where `threads` is true, and otherwise one client after another.
 struct Row {
     callers: u32,
     clients: u32,
@@ -25,14 +25,15 @@ struct Row {
     threads: bool,
 }
 
-/// What was answered: the additions, and the reads that are entries.
+/// How many answers there were: to additions (`added`), and to reads that went into the log as entries (`queued`).
 #[derive(Clone, Copy)]
 struct Sum {
     added: u64,
     queued: u64,
 }
 
-/// What a client was answered at a place among its answers, after a sum that it saw: the sum that it sees then, and whether it is an entry.
+/// The sum in an answer, and whether what was answered is an entry of the log; `before` is the sum in the client's answer before. `None` where a read
+/// sees less than that, where an addition does not see more, and where an addition is answered as no entry.
 fn seen(answered: &Answered, before: u64, is_read: bool) -> Option<(u64, bool)> {
     let (sum, is_entry) = match answered {
         Answered::Updated { answer, .. } => (answer.reply[1], true),
@@ -46,10 +47,11 @@ fn seen(answered: &Answered, before: u64, is_read: bool) -> Option<(u64, bool)> 
     if rises { Some((sum, is_entry)) } else { None }
 }
 
-/// What a client was answered in all. `None` where an answer does not have the additions before it, where a client of a caller without a limit of steps is
-/// not live or lacks an answer, and where a client of a caller with one is live or has all its answers.
+/// What a client was answered in all. `None` where an answer does not have the additions before it, where a client of a caller without a limit of
+/// steps is not live or lacks an answer, and where a client of a caller with one is live or has all its answers.
 fn sum_of(client: &Client, row: &Row) -> Option<Sum> {
     let answers = client.answers();
+    // whether the client has the answers to all additions and to the read
     let is_whole = answers.len() as u64 == row.additions.wrapping_add(1);
     if client.is_live() != (row.limit == NO_LIMIT) || client.is_live() != is_whole {
         return None;
@@ -61,6 +63,7 @@ fn sum_of(client: &Client, row: &Row) -> Option<Sum> {
     };
     for (i, answered) in answers.iter().enumerate() {
         let is_read = i as u64 == row.additions;
+        // the last answer is that of the read; `found` is the sum that this answer has
         let (found, is_entry) = seen(answered, before, is_read)?;
         before = found;
         if !is_read {
@@ -72,7 +75,7 @@ fn sum_of(client: &Client, row: &Row) -> Option<Sum> {
     Some(sum)
 }
 
-/// What all clients of a pool were answered in all, where each client's additions are in what it sees later. `None` where one client's are not.
+/// How many answers all clients of a pool had. `None` where `sum_of` of one of them is `None`.
 fn sum_of_all(clients: &[Client], row: &Row) -> Option<Sum> {
     let mut all = Sum {
         added: 0,
@@ -86,13 +89,16 @@ fn sum_of_all(clients: &[Client], row: &Row) -> Option<Sum> {
     Some(all)
 }
 
-/// The place of the region that was published last, and what counter 0 has there.
+/// The place of the replica that was published last, and what counter 0 has there. `None` where `remains`, which a closed service leaves, names no
+/// such word.
 pub(crate) fn last(remains: &Remains) -> Option<(u64, u64)> {
+    // the root that was published last names a replica and its place
     let code = *remains.published.last()?;
     let callers = remains.callers;
     if callers < 1 || callers > 8 {
         return None;
     }
+    // each replica has its head and the object's lines; word 1 of the object is counter 0
     let length = remains
         .lines
         .checked_add(HEAD_LINES)?
@@ -105,12 +111,13 @@ pub(crate) fn last(remains: &Remains) -> Option<(u64, u64)> {
     ))
 }
 
-/// Whether the published region has all entries that were answered, and of a caller that was stopped at most one more, and counter 0 has the additions among
-/// them.
+/// Whether the replica that was published last has all entries that were answered, and counter 0 has the additions among them. Without a step limit
+/// these are all additions; with one, some are missing, and the replica may have one addition that was not answered.
 fn is_left(remains: &Remains, sum: Sum, row: &Row) -> bool {
     let Some((place, count)) = last(remains) else {
         return false;
     };
+    // the entries that nobody was answered: these are additions
     let unanswered = place.wrapping_sub(sum.added.wrapping_add(sum.queued));
     let all = u64::from(row.clients).wrapping_mul(row.additions);
     count == sum.added.wrapping_add(unanswered)
@@ -121,7 +128,7 @@ fn is_left(remains: &Remains, sum: Sum, row: &Row) -> bool {
         }
 }
 
-/// Whether the clients of a row are answered as they are to be, and their pool, once it is closed, has left their entries.
+/// Whether the clients of a row are answered as `sum_of` and `is_left` ask, once their pool is closed. `Err` where memory runs out.
 fn is_right<R: Wait + Threads + Sync>(
     rt: &R,
     alloc: Global,
@@ -139,7 +146,7 @@ fn is_right<R: Wait + Threads + Sync>(
     }
 }
 
-/// The first row whose clients are not answered as they are to be, or whose pool leaves other entries.
+/// The index of the first of `rows` whose clients are not answered as they are to be, or whose pool leaves other entries. `None` where there is none.
 fn first_wrong<R: Wait + Threads + Sync>(
     rt: &R,
     alloc: Global,
@@ -154,6 +161,7 @@ fn first_wrong<R: Wait + Threads + Sync>(
 }
 
 const ROWS: [Row; 4] = [
+    // as many clients as a pool may have, one after another, by one caller
     Row {
         callers: 1,
         clients: 64,
@@ -161,6 +169,7 @@ const ROWS: [Row; 4] = [
         additions: 1,
         threads: false,
     },
+    // more clients than callers, on threads
     Row {
         callers: 2,
         clients: 3,
@@ -168,6 +177,7 @@ const ROWS: [Row; 4] = [
         additions: 200,
         threads: true,
     },
+    // eight threads share one caller
     Row {
         callers: 1,
         clients: 8,

@@ -19,6 +19,7 @@ pub struct Tally {
 }
 
 impl Tally {
+    // The result of no run: nothing is refused, and the digest has its starting number.
     fn none() -> Tally {
         Tally {
             refused: 0,
@@ -38,17 +39,21 @@ fn word_of(opcode: u64, registers: u64, offset: u64, number: u64) -> u64 {
     opcode % 256 | (registers % 256) << 8 | (offset % 65_536) << 16 | (number % (1 << 32)) << 32
 }
 
-/// A program of 9 words round the instruction that is tried: the numbers go into registers 1 and 2, the instruction is run, and the value is register 1.
-/// Where the instruction jumps by two words, the value is 7.
+/// A program of 9 words round the instruction `word`: the numbers `first` and `second` go into registers 1 and 2, the instruction is run, and the
+/// program returns register 1. Where the instruction jumps over the two words behind it, the program returns 7.
 fn around(word: u64, first: u64, second: u64) -> [u64; 9] {
     [
+        // register 1 = first: a number of 64 bits takes two words
         word_of(0x18, 0x01, 0, first),
         (first >> 32) << 32,
+        // register 2 = second
         word_of(0x18, 0x02, 0, second),
         (second >> 32) << 32,
         word,
+        // register 0, which an exit returns, = register 1; exit
         word_of(0xbf, 0x10, 0, 0),
         word_of(0x95, 0, 0, 0),
+        // register 0 = 7; exit
         word_of(0xb7, 0, 0, 7),
         word_of(0x95, 0, 0, 0),
     ]
@@ -75,7 +80,8 @@ fn of_fields(alloc: Global, opcode: u64, registers: u64, offset: u64, tally: &mu
     }
 }
 
-/// Runs `SAMPLE` 64 times, each time with another bit of word `at` turned.
+/// Runs `SAMPLE` 64 times, each time with another bit of word `at` changed. The last two words of `SAMPLE` are constants, the others are
+/// instructions.
 pub fn flipped(alloc: Global, at: usize) -> Tally {
     let mut tally = Tally::none();
     if at < SAMPLE.len() {
@@ -97,7 +103,7 @@ pub fn faults(alloc: Global, row: usize) -> Tally {
     tally
 }
 
-/// Has the program in row `row` of `UPGRADES` take over an image of another program.
+/// Has the program in row `row` of `UPGRADES` take over an image of another program. A refused allocation adds the greatest number to the digest.
 pub fn upgraded(alloc: Global, row: usize) -> Tally {
     let mut tally = Tally::none();
     if row < UPGRADES.len() {
@@ -108,15 +114,17 @@ pub fn upgraded(alloc: Global, row: usize) -> Tally {
     tally
 }
 
-/// Has a program take over an image of the program with the fingerprint 5. The image that is left is added to the digest, and whether it is one of the new
-/// program.
+/// Has a program take over an image of the program with the fingerprint 5. The image that is left is added to the digest, and whether it is one of
+/// the new program.
 fn take_over(alloc: Global, words: &[u64], tally: &mut Tally) -> Result<(), AllocError> {
     let Ok(program) = Program::of(alloc, words, 8) else {
         return Err(AllocError);
     };
+    // an object of 4 lines; an operation may take 2,000 instructions, and images with the fingerprint 5 may be taken over
     let Some(object) = ProgramObject::of(program, 4, 2_000, Some(5)) else {
         return Err(AllocError);
     };
+    // 4 lines of 8 words: the fingerprint, and then the numbers 1 to 31
     let mut image = [5; 32];
     for at in 1..32 {
         image[at] = at as u64;
@@ -132,8 +140,9 @@ fn take_over(alloc: Global, words: &[u64], tally: &mut Tally) -> Result<(), Allo
     Ok(())
 }
 
-/// Makes a program of words, of which the first `instructions` are instructions, and does operations of these kinds. Words that are no program are counted,
-/// and the fault is added to the digest.
+/// Makes a program of words, of which the first `instructions` are instructions, and does an operation for each number in `operations`, which is the
+/// first word of its request. An even number is an update, an odd one a read. Words that are no program are counted, and the fault is added to the
+/// digest.
 fn run(alloc: Global, words: &[u64], instructions: usize, operations: &[u64], tally: &mut Tally) {
     match Program::of(alloc, words, instructions) {
         Ok(program) => {
@@ -151,7 +160,7 @@ fn run(alloc: Global, words: &[u64], instructions: usize, operations: &[u64], ta
     }
 }
 
-/// Does operations of these kinds one after another, from the opening image on.
+/// Does operations one after another, from the opening image on. The request of each has its number in `operations`, and then 5.
 fn run_all<O: Object>(
     alloc: Global,
     object: &O,
@@ -168,7 +177,7 @@ fn run_all<O: Object>(
     Ok(())
 }
 
-/// The opening image of an object of 4 lines, made over words that are all the greatest number.
+/// The opening image of an object of 4 lines, made over words that are all the greatest number. `Err` also where the object has other lines.
 fn opening<O: Object>(alloc: Global, object: &O) -> Result<Vec<u64>, AllocError> {
     if object.lines() != 4 {
         return Err(AllocError);
@@ -196,7 +205,8 @@ fn image_of<O: Object>(alloc: Global, object: &O, words: Vec<u64>) -> Result<Vec
     Ok(memory)
 }
 
-/// The words that an operation leaves. The start of its reply and the words behind the first line are added to the digest.
+/// The words that the operation `op` on `words` leaves. The first 16 words of its reply and the words behind the first line are added to the digest.
+/// `Err` where memory runs out, or `words` are no image.
 fn stepped<O: Object>(
     alloc: Global,
     object: &O,
@@ -233,7 +243,7 @@ fn tell(words: &[u64], tally: &mut Tally) {
     }
 }
 
-/// The number of a kind of fault in the digest.
+/// The number of a kind of fault in the digest: why words are no program.
 fn number_of(kind: FaultKind) -> u64 {
     match kind {
         FaultKind::Length => 1,

@@ -11,16 +11,20 @@ use std::thread::Threads;
 /// A source or a sink: the most bytes of a call, at least 1, and the call that fails, counted from 1; 0 is none.
 pub(crate) type End = (usize, u64);
 
-/// The result of a run: its exit code, how many trails it leaves, and what it writes.
+/// The result of a run: its exit code (0 is success, 4 a fault of the source, 5 a fault of the sink), how many trails it leaves (one for each of its
+/// lives, and none where the run fails), and what it writes.
 type Came<'a> = (u8, usize, &'a str);
 
 /// A run: its words, its source, its sink with the room that it has, and its result.
 type Row = (&'static [&'static str], End, End, usize, Came<'static>);
 
+// The words of a command that runs the script of its source.
 const RUN: &[&str] = &["run"];
 
+// The words of a command that has no script: 2 clients make 3 updates each.
 const LOAD: &[&str] = &["load", "0", "2", "3"];
 
+// Words; source and sink, each with the most bytes of a call and the call that fails; room of the sink; and exit code, trails and text.
 const ROWS: [Row; 7] = [
     // the second call of the source fails, or that of the sink
     (RUN, (8, 2), (5, 0), 256, (4, 0, "")),
@@ -33,6 +37,7 @@ const ROWS: [Row; 7] = [
         256,
         (0, 1, "clients 2\nupdates 6\ndocuments 6\nsum 105\n"),
     ),
+    // the second call of the sink fails
     (LOAD, (8, 0), (5, 2), 256, (5, 0, "clien")),
     // a sink without room
     (RUN, (64, 0), (64, 0), 0, (5, 0, "")),
@@ -40,7 +45,7 @@ const ROWS: [Row; 7] = [
     (LOAD, (64, 0), (64, 0), 0, (5, 0, "")),
 ];
 
-/// A source that gives the script, by calls of at most `end.0` bytes, of which call number `end.1` fails.
+/// A source that gives `SCRIPT`, by calls of at most `end.0` bytes, of which call number `end.1` fails.
 pub(crate) fn source(alloc: Global, end: End) -> Result<VecSource, AllocError> {
     let fails = Vec::from_slice(alloc, &[end.1])?;
     let bytes = Vec::from_slice(alloc, SCRIPT.as_bytes())?;
@@ -54,7 +59,7 @@ pub(crate) fn sink(alloc: Global, end: End, room: usize) -> Result<VecSink, Allo
     Ok(VecSink::new(bytes, end.0.max(1), fails))
 }
 
-/// Whether a run over such a source and such a sink has this result.
+/// Whether a run of the command `words` over this source and this sink has the result `want`.
 fn comes_to<R: Threads + Wait + Sync + AllocGlobal>(
     rt: &R,
     words: &[String],
@@ -66,7 +71,7 @@ fn comes_to<R: Threads + Wait + Sync + AllocGlobal>(
     code == want.0 && trails == want.1 && sink.written() == want.2.as_bytes()
 }
 
-/// The first row whose run has another result.
+/// The index of the first of `rows` whose run has another result; `None` where there is none.
 fn first_wrong<R: Threads + Wait + Sync + AllocGlobal>(
     rt: &R,
     rows: &[Row],

@@ -9,7 +9,8 @@ use std::sync::atomic::{AtomicBool, AtomicU64, AtomicUsize, Ordering};
 use std::test::Fail;
 use std::thread::{Threads, yield_now};
 
-/// The calls of a gate, in order: the client, the number of its command, and whether it was answered.
+/// The calls of a gate in a run of one client with three commands, in order: the client, the number of its command, and whether the call is made
+/// after the command was answered; `false` is a call before the command.
 const PASSED: [(u32, u64, bool); 6] = [
     (0, 1, false),
     (0, 1, true),
@@ -22,7 +23,9 @@ const PASSED: [(u32, u64, bool); 6] = [
 /// A gate that counts its calls, and keeps whether one of them differs from its row in `PASSED`.
 #[derive(Drop)]
 struct ComparingGate {
+    // how many calls were made
     calls: AtomicUsize,
+    // whether a call differed from its row
     is_wrong: AtomicBool,
 }
 
@@ -39,7 +42,8 @@ impl Gate for ComparingGate {
     }
 }
 
-/// What a run of the script past a gate writes by these words, of at most `room` bytes. `None` where it ends with another status than 0.
+/// What a run of `script` by the command `words` writes, where each command of the script passes `gate`; there is room for `room` bytes. `None` where
+/// the exit code is not 0.
 pub(crate) fn written_past<R: Threads + Wait + Sync + AllocGlobal, G: Gate + Sync>(
     rt: &R,
     words: &[&str],
@@ -55,7 +59,8 @@ pub(crate) fn written_past<R: Threads + Wait + Sync + AllocGlobal, G: Gate + Syn
     Ok(if code == 0 { Some(sink) } else { None })
 }
 
-/// Whether a run of the script past a gate by these words ends with status 0 and has written `text`.
+/// Whether a run of `script` by the command `words`, where each command of the script passes `gate`, ends with the exit code 0 and has written
+/// `text`.
 fn writes<R: Threads + Wait + Sync + AllocGlobal, G: Gate + Sync>(
     rt: &R,
     words: &[&str],
@@ -69,6 +74,7 @@ fn writes<R: Threads + Wait + Sync + AllocGlobal, G: Gate + Sync>(
     })
 }
 
+// The gate is called twice for each command: before it, and after it was answered.
 #[test]
 fn each_command_passes_the_gate_before_and_after_it(rt: HostRuntime) -> Result<(), Fail> {
     let gate = ComparingGate {
@@ -88,20 +94,22 @@ const TWO_CLIENTS: &str = "lines 64\nlife 2 power 0\n0 add n 1\n1 add n 1\n";
 const TURNED: &str =
     "life 0 clients 2 from 0\n0 1.1 add n 1 = sum 1\n1 0.1 add n 1 = sum 2\npower 0 kept 2 of 2 documents 1\n";
 
-/// A gate that holds client 0's first command until client 1's first command was answered, for 1,000,000,000 turns at most.
+/// A gate that holds client 0's first command until client 1's first command was answered. It looks 1,000,000,000 times at most.
 #[derive(Drop)]
 struct HoldingGate {
     /// Whether client 1's first command was answered.
     answered: AtomicBool,
-    /// How many turns were left when client 0 went on, and 0 where it waited in vain.
+    /// How many looks were left when client 0 went on, and 0 where it waited in vain.
     attempts_left: AtomicU64,
 }
 
 impl Gate for HoldingGate {
     fn pass(&self, client: u32, command: u64, after: bool) {
+        // client 1's first command was answered
         if client == 1 && command == 1 && after {
             self.answered.store(true, Ordering::SeqCst);
         }
+        // only client 0 is held, before its first command
         if client != 0 || command != 1 || after {
             return;
         }
@@ -116,7 +124,8 @@ impl Gate for HoldingGate {
     }
 }
 
-/// Whether in a run by these words, in which client 0 is held, the addition of client 1 comes first, and client 0 did not wait in vain.
+/// Whether in a run of `TWO_CLIENTS` by the command `words`, in which client 0 is held, the addition of client 1 comes first, and client 0 did not
+/// wait in vain.
 fn comes_second<R: Threads + Wait + Sync + AllocGlobal>(
     rt: &R,
     words: &[&str],
@@ -129,6 +138,7 @@ fn comes_second<R: Threads + Wait + Sync + AllocGlobal>(
     Ok(is_right && gate.attempts_left.load(Ordering::SeqCst) > 0)
 }
 
+// So it is where the clients have callers of their own, and where they share a pool of 2 callers.
 #[test]
 fn a_client_that_is_held_comes_second(rt: HostRuntime) -> Result<(), Fail> {
     holds(&rt, comes_second(&rt, &["run"])?);

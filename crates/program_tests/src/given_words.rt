@@ -17,6 +17,7 @@ struct Arguments<'a> {
 }
 
 impl Env for Arguments<'_> {
+    // copies argument `i` into the front of `buf`, and returns its length
     fn arg(&self, i: usize, buf: &mut [u8]) -> Result<usize, FillError> {
         let all = self.all;
         let Some(arg) = all.split(|b| *b == 0).nth(i) else {
@@ -29,6 +30,7 @@ impl Env for Arguments<'_> {
         Ok(arg.len())
     }
 
+    // there are no environment variables
     fn var(&self, _name: &str, _buf: &mut [u8]) -> Result<usize, FillError> {
         Err(FillError::NotPresent)
     }
@@ -38,22 +40,25 @@ impl Env for Arguments<'_> {
     }
 }
 
-/// Arguments, and the words that a program with them is given.
+/// Arguments, with a byte 0 between two, and the words that a program with them is given. The first argument is the program's name.
 const ROWS: [(&[u8], &[&str]); 8] = [
     (b"cx_tool\0run", &["run"]),
     (
         b"cx_tool\0load\07\04\0\xc3\xa4",
         &["load", "7", "4", "\u{e4}"],
     ),
+    // an empty word
     (b"cx_tool\0\0run", &["", "run"]),
+    // no word behind the name; in the second row the name is empty
     (b"cx_tool", &[]),
     (b"", &[]),
-    // words that are not UTF-8 are no words
+    // where one word is not UTF-8, there are none at all
     (b"cx_tool\0\xff", &[]),
     (b"cx_tool\0run\0\xc3", &[]),
     (b"cx_tool\0\xe4\0run", &[]),
 ];
 
+// Whether `got` has just the words of `want`, in their order.
 fn are_words(got: &[String], want: &[&str]) -> bool {
     for (word, wanted) in got.iter().zip(want) {
         if word.as_str() != *wanted {
@@ -63,7 +68,7 @@ fn are_words(got: &[String], want: &[&str]) -> bool {
     got.len() == want.len()
 }
 
-/// The first row whose arguments give the program other words.
+/// The index of the first of `rows` whose arguments give the program other words; `None` where there is none.
 fn first_wrong(alloc: Global, rows: &[(&[u8], &[&str])]) -> Result<Option<usize>, AllocError> {
     for (i, (all, want)) in rows.iter().enumerate() {
         let given = words(&(Arguments { all }, alloc))?;
@@ -74,7 +79,7 @@ fn first_wrong(alloc: Global, rows: &[(&[u8], &[&str])]) -> Result<Option<usize>
     Ok(None)
 }
 
-/// Whether a program with these arguments is refused for its words.
+/// Whether a program with the arguments in `all` ends with the exit code 2, which stands for wrong words, and writes how it is used.
 fn is_refused<R: Threads + Wait + Sync + AllocGlobal>(
     rt: &R,
     all: &[u8],

@@ -16,10 +16,10 @@ const CLIENTS: u64 = 8;
 /// The commands of each client.
 const COMMANDS: u64 = 8;
 
-/// The most turns for which a client is held.
+/// How often a client that is held looks whether it may go on, at most.
 const TURNS: u64 = 1_000_000_000;
 
-/// A count of clients, and whether one waited for it in vain.
+/// A count of calls at a gate, and whether a client waited for it in vain (`is_worn`).
 #[derive(Drop)]
 struct Count {
     count: AtomicU64,
@@ -27,6 +27,7 @@ struct Count {
 }
 
 impl Count {
+    // The count 0, for which nobody has waited.
     fn new() -> Count {
         Count {
             count: AtomicU64::new(0),
@@ -34,11 +35,12 @@ impl Count {
         }
     }
 
+    /// Counts one call more.
     fn add(&self) {
         self.count.fetch_add(1, Ordering::SeqCst);
     }
 
-    /// Waits until the count is at least `least`, for `TURNS` turns at most.
+    /// Waits until the count is at least `least`. It looks `TURNS` times at most, and then notes that the client waited in vain.
     fn wait(&self, least: u64) {
         for _turn in 0..TURNS {
             if self.count.load(Ordering::SeqCst) >= least {
@@ -59,6 +61,7 @@ impl Count {
 /// the command.
 #[derive(Drop)]
 struct RoundGate {
+    // the calls before commands, and those after them
     begun: Count,
     ended: Count,
 }
@@ -67,6 +70,7 @@ impl Gate for RoundGate {
     fn pass(&self, _client: u32, command: u64, after: bool) {
         let count = if after { &self.ended } else { &self.begun };
         count.add();
+        // until each client has come to its command of this number
         count.wait(command.saturating_mul(CLIENTS));
     }
 }
@@ -74,6 +78,7 @@ impl Gate for RoundGate {
 /// A gate that holds client 0 before its fifth command until the last command of each other client was answered.
 #[derive(Drop)]
 struct FifthGate {
+    // how many of the other clients have ended their last command
     ended: Count,
 }
 
@@ -98,7 +103,8 @@ fn script(alloc: Global) -> Result<String, AllocError> {
     Ok(text)
 }
 
-/// The client and the command of a line of the journal, where both have one digit.
+/// The client and the number of the command in a line of the journal, as the digits that stand there: `3 0.4 add n 1 = sum 4` has 0 and 4. `None`
+/// where the line has no such word, or one of them has more digits.
 fn name_of(line: &str) -> Option<(u8, u8)> {
     match line.split(' ').nth(1)?.as_bytes() {
         [client, b'.', command] => Some((*client, *command)),
@@ -119,14 +125,14 @@ fn are_of_each(lines: &[&str], command: u8) -> bool {
     true
 }
 
-/// The lines of a report's journal, which stand behind the first line. Each client has as many as it has commands.
+/// The lines of a report's journal, which stand behind the first line: as many as all clients have commands. Fewer where the report is shorter.
 fn journal(alloc: Global, report: &[u8]) -> Result<Vec<&str>, AllocError> {
     let text = std::str::from_utf8(report).unwrap_or("no text");
     let all = (CLIENTS * COMMANDS) as usize;
     text.lines().skip(1).take(all).collect(alloc)
 }
 
-/// Whether the lines are 8 rounds, one after another: round k has command k of each client.
+/// Whether the lines are 8 groups of 8, one after another: group k has command k of each client, in any order.
 fn are_rounds(lines: &[&str]) -> bool {
     let rounds = lines.chunks(CLIENTS as usize);
     rounds.len() == COMMANDS as usize
@@ -148,7 +154,8 @@ fn are_last(lines: &[&str]) -> bool {
     }
 }
 
-/// Whether the journal of a run past a gate has rounds where `in_turn` is true, and otherwise ends with client 0's commands from the fifth on.
+/// Whether the journal of a run of `script` whose commands pass `gate` is as wanted. Where `in_turn` is true, it is to have command k of all clients
+/// before command k + 1 of any; otherwise it is to end with client 0's commands from the fifth on. False also where the run fails.
 fn has_journal<R: Threads + Wait + Sync + AllocGlobal, G: Gate + Sync>(
     rt: &R,
     gate: &G,

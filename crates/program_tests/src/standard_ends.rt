@@ -20,12 +20,12 @@ enum Does {
     Fails(ErrorKind),
 }
 
-/// What call number `call` does; calls are counted from 0.
+/// What call number `call` does, by the list `all`; calls are counted from 0.
 fn done(all: &[Does], call: usize) -> Does {
     all.get(call).copied().unwrap_or(Does::Bytes(usize::MAX))
 }
 
-/// A reader of a script.
+/// A reader of a script: what its calls do, how many were made, and the bytes that are left.
 #[derive(Drop)]
 struct FakeReader<'a> {
     does: &'a [Does],
@@ -50,7 +50,7 @@ impl Read for FakeReader<'_> {
     }
 }
 
-/// A writer that keeps what is written.
+/// A writer that keeps what is written: what its calls do, how many were made, and the bytes so far.
 #[derive(Drop)]
 struct FakeWriter<'a> {
     does: &'a [Does],
@@ -77,6 +77,7 @@ impl Write for FakeWriter<'_> {
     }
 }
 
+// A source over a reader of `SCRIPT` whose calls do what the list `does` says.
 fn source<'a>(does: &'a [Does]) -> StdSource<FakeReader<'a>> {
     StdSource::new(FakeReader {
         does,
@@ -85,6 +86,7 @@ fn source<'a>(does: &'a [Does]) -> StdSource<FakeReader<'a>> {
     })
 }
 
+// A sink over a writer whose calls do what the list `does` says.
 fn sink<'a>(alloc: Global, does: &'a [Does]) -> StdSink<FakeWriter<'a>> {
     StdSink::new(FakeWriter {
         does,
@@ -123,7 +125,8 @@ fn is_given(read: Result<usize, Failed>, buffer: &[u8], want: Option<&[u8]>) -> 
     }
 }
 
-/// The first read that gives something else than its row says, or after which other numbers of faults or reads are counted.
+/// The index of the first of `rows` whose read gives something else than it says, or after which the source counts other numbers of faults or reads.
+/// `None` where there is none.
 fn first_wrong_read(does: &[Does], rows: &[(Option<&[u8]>, u64)]) -> Option<usize> {
     let mut source = source(does);
     for (i, (want, faults)) in rows.iter().enumerate() {
@@ -146,8 +149,8 @@ const WRITES: [Does; 5] = [
     Does::Fails(ErrorKind::BrokenPipe),
 ];
 
-/// How many bytes each of `WRITES` and one write more takes, or `None` where the write fails; how many writes have failed by then, and the bytes that were
-/// written by then. A write that takes nothing fails too.
+/// How many bytes each of `WRITES` and one write more takes, or `None` where the write fails; how many writes have failed by then, and the bytes that
+/// were written by then. A write that takes nothing fails too.
 const TAKEN: [(Option<usize>, u64, &[u8]); 6] = [
     (Some(3), 0, b"abc"),
     (None, 1, b"abc"),
@@ -157,7 +160,8 @@ const TAKEN: [(Option<usize>, u64, &[u8]); 6] = [
     (Some(4), 3, b"abcaabcd"),
 ];
 
-/// The first write that takes something else than its row says, or after which the faults or the bytes are others.
+/// The index of the first of `rows` whose write takes something else than it says, or after which the count of faults or the bytes are others. `None`
+/// where there is none.
 fn first_wrong_write(
     alloc: Global,
     does: &[Does],
@@ -176,7 +180,8 @@ fn first_wrong_write(
 /// Two calls that fail.
 const FAILING: [Does; 2] = [Does::Fails(ErrorKind::Other), Does::Fails(ErrorKind::Other)];
 
-/// Whether the counts of faults and of reads, which begin one below the greatest number, rise to that number by a call that fails, and stay there.
+/// Whether the counts of faults and of reads, which begin at the greatest number less 1, rise to that number by a call that fails, and stay there by
+/// a second one.
 fn count_ends(alloc: Global) -> bool {
     let mut source = source(&FAILING);
     source.faults = u64::MAX - 1;
@@ -193,6 +198,7 @@ fn count_ends(alloc: Global) -> bool {
     true
 }
 
+// A source and a sink report of each call what its reader or writer did, and count the calls that failed.
 #[test]
 fn each_call_is_told(rt: HostRuntime) {
     holds(&rt, first_wrong_read(&READS, &GIVEN).is_none());
@@ -203,10 +209,13 @@ fn each_call_is_told(rt: HostRuntime) {
     holds(&rt, count_ends(rt.alloc()));
 }
 
-/// A run of the script: what its reads and its writes do, its exit code, and what it writes.
+/// A run of the script: what its reads and its writes do, its exit code (0 is success, 4 a fault of the source, 5 a fault of the sink), and what it
+/// writes.
 type Row = (&'static [Does], &'static [Does], u8, &'static str);
 
+// Reads, writes, exit code, text.
 const ROWS: [Row; 9] = [
+    // each call moves all that it can
     (&[], &[], 0, REPORT),
     // short reads, and short writes
     (&[Does::Bytes(1), Does::Bytes(7)], &[], 0, REPORT),
@@ -237,7 +246,7 @@ const ROWS: [Row; 9] = [
     (&[], &[Does::Bytes(5), Does::Bytes(0)], 5, "life "),
 ];
 
-/// The first run that ends with another status, or writes something else.
+/// The index of the first of `rows` whose run ends with another exit code, or writes something else; `None` where there is none.
 fn first_wrong_run<R: Threads + Wait + Sync + AllocGlobal>(
     rt: &R,
     rows: &[Row],
@@ -255,6 +264,7 @@ fn first_wrong_run<R: Threads + Wait + Sync + AllocGlobal>(
     Ok(None)
 }
 
+// A short read or write is no fault: the run goes on. An error is one, and so is a write of no byte.
 #[test]
 fn a_run_goes_on_past_short_reads_and_writes_alone(rt: HostRuntime) -> Result<(), Fail> {
     holds(&rt, first_wrong_run(&rt, &ROWS)?.is_none());
