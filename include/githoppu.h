@@ -192,8 +192,8 @@ int32_t githoppu_close(githoppu_session_handle session, githoppu_either *out);
 
 /* Writes an image of a closed store or queue, what a crash at the moment of closing leaves, into the given words, and its number of words into *needed. DONE
  * where count is that number, and else BAD_SIZE, and no word is written (so ask once with count 0). Choice 0 leaves of each word its durable value, choice
- * 1 the value that was stored last, and each other choice of each word that was not yet durable a number that nobody stored (the choice times the word's
- * address plus 1, which wraps); the root is one of those that may be left. All of them hold every acknowledged update; only what was pending may be there
+ * 1 the value that was stored last, and each other choice of each word that was not yet durable a made-up number (the choice times one more than the
+ * word's address, modulo 2^64); the root is one of those that may be left. All of them hold every acknowledged update; only what was pending may be there
  * or not. The same choice gives the same words.
  * OUT_OF_TURN where it is not closed: *needed is 0. The closed store is at *out again.
  *

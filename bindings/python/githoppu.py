@@ -1008,7 +1008,7 @@ class Closed:
 
     def image(self, choice: int = 0) -> Image:
         """What a crash (a power failure) at the moment of closing leaves: by choice 0 the durable value of each word, by choice 1 the value that was stored
-        last, by every other choice a number that nobody stored in each word that was not yet durable. Each holds every answered update.
+        last, by every other choice a made-up number in each word that was not yet durable. Each holds every answered update.
 
         >>> store = Store(lines=64, sessions=2)
         >>> store[0].add("sold", 4)

@@ -202,8 +202,8 @@ pub struct Closed(Pointer);
 
 impl Closed {
     /// What a crash (a power failure) at the moment of closing leaves of it: by choice 0 the durable value of each word, by choice 1 the value that was
-    /// stored last, and by every other choice a number that nobody stored in each word that was not yet durable. Each holds every acknowledged update. The
-    /// same choice gives the same words.
+    /// stored last, and by every other choice a made-up number in each word that was not yet durable. Each holds every acknowledged update. The same
+    /// choice gives the same words.
     pub fn image(&mut self, choice: u64) -> Result<Image, Error> {
         self.0.image(choice).map(Image)
     }
